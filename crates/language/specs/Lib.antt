@@ -1,0 +1,15 @@
+pub mod Answers
+pub mod Limits
+pub mod Syntax
+pub mod Tokens
+pub mod Layout
+pub mod Reading
+pub mod Effects
+pub mod Meaning
+pub mod Machine
+pub mod Grammar
+pub mod Book
+pub mod Store
+pub mod History
+pub mod Examples
+pub mod Statements

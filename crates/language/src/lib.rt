@@ -1,0 +1,109 @@
+// What code and definitions share: a letter's code table with its limits, and the answers of document 01.
+ghost use mathlib.Core.Path.{_≡_};
+ghost use Rattle.language.specs.Answers.{refusalNumber, endingNumber};
+ghost use Rattle.language.specs.Layout.{cleared};
+
+// One letter's code table: how many of its cells are used, and its cells. Cell 1 of document 01 is `cells[0]`.
+pub struct Table {
+    pub used: usize,
+    pub cells: [i32; 250],
+}
+
+impl Table {
+    // The deepest nesting level of a text; the outermost expression is level 1.
+    pub const LEVELS: usize = 10;
+    // The cells of one letter.
+    pub const CELLS: usize = 250;
+    // The counters of one text.
+    pub const COUNTERS: usize = 16;
+    // The calls that may be open at once, the run's own letter not counted.
+    pub const CALLS: usize = 100;
+
+    // The table of a cleared letter.
+    pub fn fresh() -> Table
+        ensures { λ r. ⌜ r ≡ cleared ⌝ }
+    {
+        Table {
+            used: 0,
+            cells: [0i32; 250],
+        }
+    }
+}
+
+// Why a call is refused, in the order of document 01's numbers 1 to 14.
+pub enum Refusal {
+    NoSuchLetter,
+    LongText,
+    StrayMark,
+    Deep,
+    BadCounter,
+    BadConstant,
+    Unfinished,
+    TableFull,
+    ManyCounters,
+    NotStanding,
+    BadInput,
+    BadList,
+    BadStore,
+    BadLine,
+}
+
+impl Refusal {
+    // Document 01's number.
+    pub fn number(self) -> u32
+        ensures { λ r. ⌜ r ≡ refusalNumber self ⌝ }
+    {
+        match self {
+            Refusal::NoSuchLetter => 1,
+            Refusal::LongText => 2,
+            Refusal::StrayMark => 3,
+            Refusal::Deep => 4,
+            Refusal::BadCounter => 5,
+            Refusal::BadConstant => 6,
+            Refusal::Unfinished => 7,
+            Refusal::TableFull => 8,
+            Refusal::ManyCounters => 9,
+            Refusal::NotStanding => 10,
+            Refusal::BadInput => 11,
+            Refusal::BadList => 12,
+            Refusal::BadStore => 13,
+            Refusal::BadLine => 14,
+        }
+    }
+}
+
+// How a run ends: 0 and document 01's numbers 20 to 29.
+pub enum Ending {
+    Finished,
+    Spent,
+    ListEmpty,
+    ListFull,
+    Range,
+    ZeroDivisor,
+    NoInput,
+    PaperOut,
+    NoText,
+    DeepCalls,
+    Damaged,
+}
+
+impl Ending {
+    // Document 01's number.
+    pub fn number(self) -> u32
+        ensures { λ r. ⌜ r ≡ endingNumber self ⌝ }
+    {
+        match self {
+            Ending::Finished => 0,
+            Ending::Spent => 20,
+            Ending::ListEmpty => 21,
+            Ending::ListFull => 22,
+            Ending::Range => 23,
+            Ending::ZeroDivisor => 24,
+            Ending::NoInput => 25,
+            Ending::PaperOut => 26,
+            Ending::NoText => 27,
+            Ending::DeepCalls => 28,
+            Ending::Damaged => 29,
+        }
+    }
+}
