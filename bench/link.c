@@ -1,0 +1,138 @@
+/*
+ * The proved linker against a linker in plain C, in one run: both give the same numbers and the same cells on many texts, and then the time of each on
+ * short, typical and longest texts.
+ */
+#define _POSIX_C_SOURCE 199309L
+#include "plain_linker.h"
+#include "rec.h"
+#include <stdio.h>
+#include <string.h>
+#include <time.h>
+
+enum { CELLS = 250, LONGEST = 300, ROUNDS = 7 };
+
+static uint64_t state = 88172645463325252u;
+
+static uint32_t below(uint32_t n) {
+    state ^= state << 13;
+    state ^= state >> 7;
+    state ^= state << 17;
+    return (uint32_t)(state >> 32) % n;
+}
+
+static long compared, accepted;
+
+/* Both linkers on one text. Their answers and every cell must be equal. */
+static int same(const uint8_t *text, size_t length) {
+    int32_t a[CELLS + 2], b[CELLS + 2];
+    memset(a, 0x55, sizeof a);
+    memset(b, 0x55, sizeof b);
+    size_t room = below(8) == 0 ? below(CELLS + 2) : CELLS;
+    int32_t x = rec_link(text, length, a, room);
+    int32_t y = plain_link(text, length, b, room);
+    compared++;
+    accepted += x == 0;
+    if (x == y && rec_check(text, length) == x && memcmp(a, b, sizeof a) == 0) return 1;
+    printf("differ: %d and %d on %.*s\n", (int)x, (int)y, (int)length, (const char *)text);
+    return 0;
+}
+
+/* A text that follows the grammar often and breaks it at times. */
+static size_t some_text(uint8_t *text) {
+    static const char *pieces[] = {"N", "0", "J", "a", "z", "+", "-", "A", "L", "F0", "S7", "$1$", "$9999$", "'/5'", "'/-999999999'", "''paid '", "''", ";", ":", ",", ".",
+        "(", "(", "(", ")", ")", " ", "\n", "\"note\"", "P", "X", "$0$", "'/'", "B", "''", "\"", "$", "'", "\t"};
+    uint32_t kinds = below(3) == 0 ? sizeof pieces / sizeof *pieces : 30;
+    size_t length = 0, most = 1 + below(LONGEST - 20);
+    int depth = 1;
+    text[length++] = '(';
+    while (length < most) {
+        const char *p = pieces[below(kinds)];
+        if (*p == '(' && depth >= 8 + (int)below(4)) continue;
+        if (*p == ')' && depth == 1) continue;
+        depth += *p == '(';
+        depth -= *p == ')';
+        memcpy(text + length, p, strlen(p));
+        length += strlen(p);
+    }
+    if (below(16) != 0) while (depth-- > 0) text[length++] = ')';
+    if (below(8) == 0) text[length++] = (uint8_t)below(256);
+    if (below(8) == 0) text[below((uint32_t)length)] = (uint8_t)below(256);
+    return length;
+}
+
+static double seconds(void) {
+    struct timespec t;
+    clock_gettime(CLOCK_MONOTONIC, &t);
+    return (double)t.tv_sec + 1e-9 * (double)t.tv_nsec;
+}
+
+typedef int32_t linker(const uint8_t *, size_t, int32_t *, size_t);
+
+/* Nanoseconds for a text, the best of several rounds. */
+static double measure(linker *link, const uint8_t *text, size_t length) {
+    static int32_t cells[CELLS];
+    static volatile int32_t sink;
+    double best = 1e9;
+    long times = length < 16 ? 400000 : 100000;
+    for (int r = 0; r < ROUNDS; r++) {
+        double start = seconds();
+        for (long i = 0; i < times; i++) sink = link(text, length, cells, CELLS);
+        double each = (seconds() - start) / (double)times * 1e9;
+        if (each < best) best = each;
+    }
+    (void)sink;
+    return best;
+}
+
+static void row(const char *name, const char *text, size_t length) {
+    double proved = measure(rec_link, (const uint8_t *)text, length);
+    double plain = measure(plain_link, (const uint8_t *)text, length);
+    printf("%-26s %4zu bytes  proved %7.0f ns  plain %7.0f ns  ratio %.2f\n", name, length, proved, plain, proved / plain);
+}
+
+int main(void) {
+    uint8_t text[2 * LONGEST];
+    for (int i = 0; i < 300000; i++)
+        if (!same(text, some_text(text))) return 1;
+    for (int i = 0; i < 300000; i++) {
+        size_t length = below(LONGEST);
+        for (size_t j = 0; j < length; j++) text[j] = below(4) ? (uint8_t)"(N;):,.+F1$1'/ \"a"[below(17)] : (uint8_t)below(256);
+        if (!same(text, length)) return 1;
+    }
+    printf("%ld texts, %ld of them accepted: the same numbers and the same cells\n", compared, accepted);
+
+    static char worst[4][257];
+    memset(worst[0], 'N', 125);
+    worst[0][0] = '(';
+    worst[0][124] = ')';
+    memset(worst[1], '+', 249);
+    worst[1][0] = '(';
+    worst[1][248] = ')';
+    memset(worst[2], 0, 257);
+    for (int i = 0; i < 246; i++) worst[2][i] = "(N;"[i % 3];
+    worst[2][0] = '(';
+    for (int i = 1, depth = 1; i < 256; i++) {
+        worst[2][i] = depth < 10 && i % 5 == 1 ? '(' : depth > 1 && i % 5 == 4 ? ')' : "N;:"[i % 3];
+        depth += (worst[2][i] == '(') - (worst[2][i] == ')');
+        if (256 - i - 1 == depth) {
+            while (depth-- > 0) worst[2][++i] = ')';
+            break;
+        }
+    }
+    memset(worst[3], ' ', 256);
+    worst[3][0] = '(';
+    worst[3][255] = ')';
+    const char *d = "(0L'/1';'/1'-d'/2'*;)";
+    const char *loop = "('/0'($5$'/1'+:;);)";
+    const char *typical = "(\"stake by odds\" I S1 I S2 F1 F2 * '/100' / (N ''no bet' X ; P '/500' - N L ; L '/500') ''Pays ' O X ($3$ ''*' :) ; X)";
+    row("()", "()", 2);
+    row("(N;)", "(N;)", 4);
+    row("document 01's d", d, strlen(d));
+    row("document 01's counter loop", loop, strlen(loop));
+    row("a till's text", typical, strlen(typical));
+    row("123 predicates", worst[0], 125);
+    row("247 operators", worst[1], 249);
+    row("nested, 256 bytes", worst[2], 256);
+    row("254 blanks", worst[3], 256);
+    return 0;
+}

@@ -1,0 +1,95 @@
+-- `instructions::output::copy_cells` meets its contract. The loop's invariant: the first i bytes are pasted.
+use mathlib.Core.Path.{_≡_, refl, sym, _∙_}
+use Prim.Native.Nat.{_+_, _-_, _≤_}
+use native.Mathlib.Numerals.{add-one}
+use native.Mathlib.Omega.{arith}
+use lib.IntN.{pos}
+use lib.ListN.{length, getD, length-set}
+use lib.Seq.{paste, paste-zero, paste-suc}
+use mir.Syntax.{w32}
+use mir.Val.{toZ, ofZ}
+use denote.Ref.{now}
+use borrow.Author.Needs.{needs}
+use Rattle.instructions.specs.Operands.{printsFrom}
+use Rattle.instructions.proofs.Prints.{length-prints, getD-prints}
+use Rattle.instructions.proofs.output.copy_cells.Statement.{statement}
+use Rattle.instructions.proofs.output.copy_cells.Tie as tie
+
+abbrev Inv-loop : tie.InvT-loop
+Inv-loop output₀ to cells from n i₀ output i = (i ≤ n) × ((length output ≡ length output₀) × (output ≡ paste output₀ to (printsFrom cells from n) i))
+
+abbrev μ-loop : tie.MeasureT-loop
+μ-loop output₀ to cells from n i₀ output i = n - i
+
+-- the byte that is read
+module _ (c : tie.After-print-byte Inv-loop μ-loop) where
+  byte : c .print-byte .result ≡ getD (printsFrom (now (c .before .before .before .before .before .args .cells)) (c .before .before .before .before .before .args .from) (c .before .before .before .before .before .args .n)) (c .before .before .before .loop .i) 0
+  byte =
+      let l = now (c .before .before .before .before .before .args .cells) in
+      let i = c .before .before .before .before .before .args .from + c .before .before .before .loop .i in
+      let e : toZ w32 (ofZ w32 (getD l i (pos 0))) ≡ getD l i (pos 0) = search needs in
+      (rw e at (c .print-byte .ensures)) ∙ sym (getD-prints l (c .before .before .before .before .before .args .from) (c .before .before .before .before .before .args .n) (c .before .before .before .loop .i) (omega arith))
+
+loop-holds : tie.Need-loop-holds Inv-loop μ-loop
+loop-holds c = (omega arith, (refl, paste-zero (now (c .before .args .output)) (c .before .args .to) (printsFrom (now (c .before .args .cells)) (c .before .args .from) (c .before .args .n))))
+
+add-print-byte : tie.Need-add-print-byte Inv-loop μ-loop
+add-print-byte c = omega arith
+
+mul-print-byte : tie.Need-mul-print-byte Inv-loop μ-loop
+mul-print-byte c = omega arith
+
+element-copy-out-print-byte : tie.Need-element-copy-out-print-byte Inv-loop μ-loop
+element-copy-out-print-byte c = omega arith
+
+print-byte-requires : tie.Need-print-byte-requires Inv-loop μ-loop
+print-byte-requires c κs = search needs
+
+add-output : tie.Need-add-output Inv-loop μ-loop
+add-output c = omega (arith, c .before .before .before .loop .inv .1 .0)
+
+slice-write-output : tie.Need-slice-write-output Inv-loop μ-loop
+slice-write-output c = omega (arith, c .before .before .before .loop .inv .1 .0)
+
+add-i : tie.Need-add-i Inv-loop μ-loop
+add-i c = omega arith
+
+loop-less : tie.Need-loop-less Inv-loop μ-loop
+loop-less c = omega arith
+
+loop-again : tie.Need-loop-again Inv-loop μ-loop
+loop-again c = let s = c .before .before .before .before .before in
+    let i = c .before .before .before .loop .i in
+    let b = printsFrom (now (s .args .cells)) (s .args .from) (s .args .n) in (
+      omega arith,
+      (
+        length-set (c .before .before .before .loop .output) (s .args .to + i) _ ∙ c .before .before .before .loop .inv .1 .0,
+        rw (c .before .before .before .loop .inv .1 .1, byte (c), add-one i)
+            (paste-suc (now (s .args .output)) (s .args .to) b i 0 (omega arith) (omega (arith, length-prints (now (s .args .cells)) (s .args .from) (s .args .n)))),
+      ),
+    )
+
+same-length : tie.Need-same-length Inv-loop μ-loop
+same-length c = c .before .loop .inv .1 .0
+
+returns : tie.Need-returns Inv-loop μ-loop
+returns c = let e : c .before .loop .i ≡ c .before .before .before .args .n = omega arith in c .before .loop .inv .1 .1 ∙ rw e
+
+pub copy-cells-spec : {M : Type 1} → statement M
+copy-cells-spec =
+    tie.close
+    (tie.spec
+    Inv-loop
+    μ-loop
+    loop-holds
+    add-print-byte
+    mul-print-byte
+    element-copy-out-print-byte
+    print-byte-requires
+    add-output
+    slice-write-output
+    add-i
+    loop-less
+    loop-again
+    same-length
+    returns)

@@ -1,0 +1,119 @@
+-- The kind of a byte says the class that the definitions give it.
+use mathlib.Core.Path.{_≡_, refl, subst}
+use mathlib.Core.Bool.{Bool, true, false, cond, _&&_}
+use Prim.Native.Nat.{ℕ, _+_, _<_}
+use native.Mathlib.Omega.{arith}
+use lib.Dec.{T, leb, eqb, eqb→eq}
+use borrow.Author.Tests.{leb-true}
+use Rattle.language.specs.Syntax.{Operator, operatorByte, Access, accessByte, Condition, conditionByte}
+use Rattle.language.specs.Tokens.{between, Class, blank, quote, opening, closing, semicolon, point, dollar, tick, stray, operating, accessing, comparing, calling, class}
+use Rattle.linker.specs.Lexing.{classRank, byteRank, kindRanked, kindOf}
+use Rattle.linker.specs.declared.lexer.Kind.{Kind}
+use Rattle.linker.specs.declared.lexer.Kind.the-variants as K
+use Rattle.linker.proofs.Bytes.{in-range}
+
+-- the byte of a class that has one of several
+abbrev ownByte : Class → ℕ → Bool
+ownByte blank b = true
+ownByte quote b = true
+ownByte opening b = true
+ownByte closing b = true
+ownByte semicolon b = true
+ownByte point b = true
+ownByte (operating o) b = eqb (operatorByte o) b
+ownByte (accessing a) b = eqb (accessByte a) b
+ownByte (comparing c) b = eqb (conditionByte c) b
+ownByte (calling a) b = eqb (97 + a) b
+ownByte dollar b = true
+ownByte tick b = true
+ownByte stray b = true
+
+own-byte : (b : ℕ) → b < 256 → T (ownByte (class b) b)
+unfolding class
+own-byte b h = in-range (λ (b : ℕ). ownByte (class b) b) 0 256 tt b (omega arith) (omega arith)
+
+abbrev isStray : Class → Bool
+isStray blank = false
+isStray quote = false
+isStray opening = false
+isStray closing = false
+isStray semicolon = false
+isStray point = false
+isStray (operating o) = false
+isStray (accessing a) = false
+isStray (comparing c) = false
+isStray (calling a) = false
+isStray dollar = false
+isStray tick = false
+isStray stray = true
+
+stray-is : (c : Class) → T (isStray c) → c ≡ stray
+stray-is blank t = absurd t
+stray-is quote t = absurd t
+stray-is opening t = absurd t
+stray-is closing t = absurd t
+stray-is semicolon t = absurd t
+stray-is point t = absurd t
+stray-is (operating o) t = absurd t
+stray-is (accessing a) t = absurd t
+stray-is (comparing c) t = absurd t
+stray-is (calling a) t = absurd t
+stray-is dollar t = absurd t
+stray-is tick t = absurd t
+stray-is stray t = refl
+
+and-left : (a b : Bool) → (a && b) ≡ true → a ≡ true
+and-left true b e = refl
+and-left false b e = e
+
+and-right : (a b : Bool) → (a && b) ≡ true → b ≡ true
+and-right true b e = e
+and-right false true e = refl
+and-right false false e = e
+
+digit-stray : (b : ℕ) → between 49 57 b ≡ true → class b ≡ stray
+unfolding class
+digit-stray b e =
+    let l = leb-true 49 b (and-left (leb 49 b) (leb b 57) e) in
+    let u = leb-true b 57 (and-right (leb 49 b) (leb b 57) e) in
+    stray-is (class b) (in-range (λ (b : ℕ). isStray (class b)) 49 9 tt b l (omega arith))
+
+-- the byte's class, by its kind
+abbrev pub Sorted : Kind → ℕ → Type 0
+Sorted K.Blank b = class b ≡ blank
+Sorted K.Quote b = class b ≡ quote
+Sorted K.Open b = class b ≡ opening
+Sorted K.Close b = class b ≡ closing
+Sorted K.Semicolon b = class b ≡ semicolon
+Sorted K.Colon b = class b ≡ point
+Sorted K.Operator b = (o : Operator) × (operatorByte o ≡ b) × (class b ≡ operating o)
+Sorted K.Access b = (a : Access) × (accessByte a ≡ b) × (class b ≡ accessing a)
+Sorted K.Condition b = (c : Condition) × (conditionByte c ≡ b) × (class b ≡ comparing c)
+Sorted K.Letter b = (a : ℕ) × (97 + a ≡ b) × (class b ≡ calling a)
+Sorted K.Dollar b = class b ≡ dollar
+Sorted K.Tick b = class b ≡ tick
+Sorted K.Digit b = class b ≡ stray
+Sorted K.Stray b = class b ≡ stray
+
+pub sorted : (b : ℕ) → b < 256 → Sorted (kindOf b) b
+unfolding kindOf byteRank
+sorted b h = go (between 49 57 b) (class b) refl refl
+  where
+    own : (c : Class) → class b ≡ c → T (ownByte c b)
+    own c e = subst (λ c. T (ownByte c b)) e (own-byte b h)
+
+    go : (t : Bool) (c : Class) → between 49 57 b ≡ t → class b ≡ c → Sorted (kindRanked (cond t 12 (classRank c))) b
+    go true c e f = digit-stray b e
+    go false blank e f = f
+    go false quote e f = f
+    go false opening e f = f
+    go false closing e f = f
+    go false semicolon e f = f
+    go false point e f = f
+    go false (operating o) e f = (o, eqb→eq _ b (own (operating o) f), f)
+    go false (accessing a) e f = (a, eqb→eq _ b (own (accessing a) f), f)
+    go false (comparing c) e f = (c, eqb→eq _ b (own (comparing c) f), f)
+    go false (calling a) e f = (a, eqb→eq _ b (own (calling a) f), f)
+    go false dollar e f = f
+    go false tick e f = f
+    go false stray e f = f

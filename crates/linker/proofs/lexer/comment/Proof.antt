@@ -1,0 +1,70 @@
+-- `comment` meets its contract: the tokens from place i on are those from the start of the comment.
+use Rattle.linker.proofs.Lexing.{tokens-end, comment-end, comment-on, comment-low, comment-high}
+use Rattle.language.specs.Tokens.{tokens, comment, finish}
+use lib.ListN.{length, drop}
+use native.Mathlib.Omega.{arith}
+use Prim.Native.Nat.{_-_, _≤_}
+use mathlib.Core.Logic.{inl, inr, ⊎-elim}
+use mathlib.Core.Path.{_≡_, refl, sym, _∙_}
+use Rattle.linker.proofs.lexer.comment.Statement.{statement}
+use Rattle.linker.proofs.lexer.comment.Tie as tie
+
+abbrev Inv-loop : tie.InvT-loop
+Inv-loop text from i₀ i = (from ≤ i) × ((i ≤ length text) × (tokens (drop i text) comment ≡ tokens (drop from text) comment))
+
+abbrev μ-loop : tie.MeasureT-loop
+μ-loop text from i₀ i = length text - i
+
+loop-holds : tie.Need-loop-holds Inv-loop μ-loop
+loop-holds c = (omega arith, (omega arith, refl))
+
+shared-slice-read-b : tie.Need-shared-slice-read-b Inv-loop μ-loop
+shared-slice-read-b c = omega arith
+
+add-t10 : tie.Need-add-t10 Inv-loop μ-loop
+add-t10 c = omega arith
+
+returns : tie.Need-returns Inv-loop μ-loop
+returns c = record { means = sym (c .before .before .before .loop .inv .1 .1) ∙ comment-end (c .before .before .before .before .args .text .now) (c .before .before .before .loop .i) (omega arith) (c .if1 .taken); after = omega arith; inside = omega arith }
+
+returns-2 : tie.Need-returns-2 Inv-loop μ-loop
+returns-2 c = record { means = sym (c .before .before .before .before .before .loop .inv .1 .1) ∙ comment-low (c .before .before .before .before .before .before .args .text .now) (c .before .before .before .before .before .loop .i) (omega arith) (c .before .if2 .taken) (c .if3 .taken); after = omega arith; inside = omega arith }
+
+returns-3 : tie.Need-returns-3 Inv-loop μ-loop
+returns-3 c = record { means = sym (c .before .before .before .before .before .loop .inv .1 .1) ∙ comment-high (c .before .before .before .before .before .before .args .text .now) (c .before .before .before .before .before .loop .i) (omega arith) (c .if4 .taken); after = omega arith; inside = omega arith }
+
+add-i : tie.Need-add-i Inv-loop μ-loop
+add-i c = omega arith
+
+loop-less : tie.Need-loop-less Inv-loop μ-loop
+loop-less c = omega arith
+
+loop-again : tie.Need-loop-again Inv-loop μ-loop
+loop-again c = (
+  omega arith,
+  (
+    omega arith,
+    sym (comment-on (c .before .before .before .before .before .before .args .text .now) (c .before .before .before .before .before .loop .i) (omega arith) (c .before .before .if1 .left) (⊎-elim (λ w. inl (w .1 .left)) (λ w. inr (w .left)) (c .before .if2 .came)) (c .if4 .left)) ∙ c .before .before .before .before .before .loop .inv .1 .1,
+  ),
+)
+
+returns-4 : tie.Need-returns-4 Inv-loop μ-loop
+unfolding finish
+returns-4 c = record { means = sym (c .before .loop .inv .1 .1) ∙ tokens-end (c .before .before .args .text .now) (c .before .loop .i) comment (omega arith); after = omega arith; inside = omega arith }
+
+pub comment-spec : {M : Type 1} → statement M
+comment-spec =
+    tie.close
+    (tie.spec
+    Inv-loop
+    μ-loop
+    loop-holds
+    shared-slice-read-b
+    add-t10
+    returns
+    returns-2
+    returns-3
+    add-i
+    loop-less
+    loop-again
+    returns-4)

@@ -1,0 +1,70 @@
+-- `variable` meets its contract.
+use Rattle.linker.proofs.Drafts.{fit-room, fit-full}
+use Rattle.linker.specs.Drafts.{draft}
+use mathlib.Core.Path.{_≡_, sym, ap, _∙_}
+use Rattle.linker.proofs.Ints.{opcode-back, number-back}
+use mir.Val.{toZ, ofZ}
+use mir.Syntax.{w32}
+use lib.IntN.{pos, negℤ}
+use borrow.Author.Needs.{needs}
+use Rattle.linker.proofs.pass.Pass.variable.Statement.{statement}
+use Rattle.linker.proofs.pass.Pass.variable.Tie as tie
+
+add-if1 : tie.Need-add-if1
+add-if1 c = search needs
+
+refuse-requires : tie.Need-refuse-requires
+refuse-requires c κs = search needs
+
+returns : tie.Need-returns
+returns c =
+    let s = c .before .before .args in
+    λ K L S. ap (λ p. draft p (s .cells .now) K L S) (c .refuse .ensures) ∙ sym (fit-full (draft (s .self) (s .cells .now) K L S) _ (c .before .if1 .taken))
+
+add-second : tie.Need-add-second
+add-second c = search needs
+
+opcode-requires : tie.Need-opcode-requires
+opcode-requires c κs = search needs
+
+mul-cells : tie.Need-mul-cells
+mul-cells c = search needs
+
+element-set-from-cells : tie.Need-element-set-from-cells
+element-set-from-cells c = search needs
+
+byte-cell-requires : tie.Need-byte-cell-requires
+byte-cell-requires c κs = search needs
+
+mul-t8 : tie.Need-mul-t8
+mul-t8 c = search needs
+
+element-set-from-cells-2 : tie.Need-element-set-from-cells-2
+element-set-from-cells-2 c = search needs
+
+add-p : tie.Need-add-p
+add-p c = search needs
+
+returns-2 : tie.Need-returns-2
+returns-2 c =
+    let s = c .before .before .before .args in
+    let z : toZ w32 (ofZ w32 (c .before .opcode .result)) ≡ negℤ (pos (s .b)) = opcode-back _ (s .b) (c .before .opcode .ensures) (search needs) in
+    let y : toZ w32 (ofZ w32 (c .byte-cell .result)) ≡ pos (s .digit) = number-back _ (s .digit) (c .byte-cell .ensures) (search needs) in
+    λ K L S. rw (z, y) (sym (fit-room (draft (s .self) (s .cells .now) K L S) _ (c .before .before .if1 .left)))
+
+pub variable-spec : {M : Type 1} → statement M
+variable-spec =
+    tie.close
+    (tie.spec
+    add-if1
+    refuse-requires
+    returns
+    add-second
+    opcode-requires
+    mul-cells
+    element-set-from-cells
+    byte-cell-requires
+    mul-t8
+    element-set-from-cells-2
+    add-p
+    returns-2)

@@ -1,0 +1,14 @@
+-- `refused` meets its contract.
+use mathlib.Core.Path.{ap}
+use borrow.Author.Needs.{needs}
+use Rattle.linker.proofs.refused.Statement.{statement}
+use Rattle.linker.proofs.refused.Tie as tie
+
+fresh-requires : tie.Need-fresh-requires
+fresh-requires c κs = search needs
+
+returns : tie.Need-returns
+returns c = ap (λ t. record { number = c .before .args .n; table = t }) (c .fresh .ensures)
+
+pub refused-spec : {M : Type 1} → statement M
+refused-spec = tie.close (tie.spec fresh-requires returns)

@@ -1,0 +1,9 @@
+-- What a text links to: document 01's number and its code table, which is cleared where the text is refused.
+use Rattle.language.specs.Answers.{refusalNumber}
+use Rattle.language.specs.Layout.{layout, cleared}
+use Rattle.language.specs.Reading.{Reading, refused, accepted}
+use Rattle.linker.specs.declared.Linked.{Linked}
+
+abbrev pub linked : Reading → Linked
+linked (refused r) = record { number = refusalNumber r; table = cleared }
+linked (accepted w) = record { number = 0; table = layout w }

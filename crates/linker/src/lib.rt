@@ -1,0 +1,126 @@
+// The linker: from a source text to its code table, or to the number of its refusal.
+ghost use mathlib.Core.Path.{_≡_};
+ghost use Prim.Native.Nat.{_≤_, min};
+ghost use lib.ListN.{length};
+ghost use lib.Seq.{paste};
+ghost use Rattle.language.specs.Layout.{cleared};
+ghost use Rattle.language.specs.Reading.{read};
+ghost use Rattle.linker.specs.Lexing.{outsideOf};
+ghost use Rattle.linker.specs.Linked.{linked};
+
+mod exits;
+mod lexer;
+mod pass;
+
+use exits::fill;
+use language::Refusal;
+use language::Table;
+use lexer::Token;
+use lexer::next_token;
+use pass::scan;
+
+// Document 01's number, 0 where the text is accepted, and its table, which is cleared where it is refused.
+pub struct Linked {
+    pub number: u32,
+    pub table: Table,
+}
+
+// The bytes that a text may have.
+const TEXT: usize = 256;
+
+// A refusal, with a cleared table.
+fn refused(n: u32) -> Linked
+    ensures { λ r. ⌜ r ≡ record { number = n; table = cleared } ⌝ }
+{
+    Linked {
+        number: n,
+        table: Table::fresh(),
+    }
+}
+
+// What a token outside the outermost expression is refused as.
+fn outside(t: Token) -> Refusal
+    ensures { λ r. ⌜ r ≡ outsideOf t ⌝ }
+{
+    match t {
+        Token::End => Refusal::Unfinished,
+        Token::Fault(r) => r,
+        _ => Refusal::StrayMark,
+    }
+}
+
+// The code table of a source text, or its refusal.
+pub fn link(text: &[u8]) -> Linked
+    ensures { λ r. ⌜ r ≡ linked (read (now (text .entry))) ⌝ }
+{
+    if TEXT < text.len() {
+        return refused(Refusal::LongText.number());
+    }
+    let first = next_token(text, 0);
+    let t = first.token;
+    let Token::Open = t else {
+        return refused(outside(t).number());
+    };
+    let mut cells = [0i32; 250];
+    let mut kinds = [0u8; 250];
+    let mut levels = [0u8; 250];
+    let s = scan(text, first.next, &mut cells, &mut kinds, &mut levels);
+    let p = s.pass;
+    if p.fault != 0 {
+        return refused(p.fault);
+    }
+    let last = next_token(text, s.next);
+    let e = last.token;
+    let Token::End = e else {
+        return refused(outside(e).number());
+    };
+    fill(p.used, &mut cells, &kinds, &levels);
+    Linked {
+        number: 0,
+        table: Table {
+            used: p.used,
+            cells,
+        },
+    }
+}
+
+// For C: 0, or the number of the refusal.
+#[no_mangle]
+pub extern "C" fn rec_check(text: &[u8]) -> u32
+    ensures { λ r. ⌜ r ≡ linked (read (now (text .entry))) .number ⌝ }
+{
+    link(text).number
+}
+
+// The first n cells of a table in the first n of the lent places.
+fn copy_cells(table: &[i32; 250], places: &mut [i32], n: usize)
+    requires { ⌜ (length (now table) ≡ 250) × ((n ≤ 250) × (n ≤ length (now places))) ⌝ }
+    ensures { λ _. ⌜ now (places .exit) ≡ paste (now (places .entry)) 0 (now (table .entry)) n ⌝ }
+{
+    let mut i: usize = 0;
+    while i < n {
+        places[i] = table[i];
+        i += 1;
+    }
+}
+
+// n, and at most the cells of a table.
+fn at_most(n: usize) -> usize
+    ensures { λ r. ⌜ r ≡ min 250 n ⌝ }
+{
+    if Table::CELLS < n { Table::CELLS } else { n }
+}
+
+// For C: the same, and the table's cells in the places that are lent, up to 250 of them; the other places stay as they were.
+#[no_mangle]
+pub extern "C" fn rec_link(text: &[u8], cells: &mut [i32]) -> u32
+    ensures { λ r. ⌜ (r ≡ linked (read (now (text .entry))) .number)
+        × (now (cells .exit) ≡ paste (now (cells .entry)) 0 (linked (read (now (text .entry))) .table .cells) (min 250 (length (now (cells .entry))))) ⌝ }
+{
+    let l = link(text);
+    let t = l.table;
+    let table = t.cells;
+    let n = at_most(cells.len());
+    copy_cells(&table, cells, n);
+    l.number
+}
