@@ -112,9 +112,9 @@ impl Store {
         if self.used[k] == 0 {
             return self.refused(Refusal::NotStanding);
         }
-        let s = self.with_table(k, Table::fresh());
+        let cleared = self.with_table(k, Table::fresh());
         Told {
-            store: s,
+            store: cleared,
             number: 0,
         }
     }
@@ -141,9 +141,9 @@ impl Store {
             };
         }
         let table = l.table;
-        let s = self.with_table(k, table);
+        let defined = self.with_table(k, table);
         Told {
-            store: s,
+            store: defined,
             number: 0,
         }
     }
@@ -172,10 +172,10 @@ impl Store {
             output,
         );
         let after = r.vars;
-        let mut s = self;
-        s.vars = after;
+        let mut store = self;
+        store.vars = after;
         Answer {
-            store: s,
+            store: store,
             number: r.number,
             truth: r.truth,
             steps: r.steps,

@@ -13,6 +13,7 @@ use crate::NO_TEXT;
 use crate::SPENT;
 use crate::operands::exit_of;
 use crate::operands::target;
+use language::Table;
 
 // The call of letter a: "27 before 28".
 pub fn call<'a>(
@@ -36,7 +37,7 @@ pub fn call<'a>(
         return m.stop(NO_TEXT);
     }
     let d = m.depth;
-    if d < 100 {
+    if d < Table::CALLS {
         frames[3 * d] = m.letter;
         frames[3 * d + 1] = m.at + 2;
         frames[3 * d + 2] = f;
@@ -59,7 +60,7 @@ pub fn transfer<'a>(m: Machine, cells: &'a [i32; 6500], used: &'a [usize; 26]) -
 {
     let at = m.at;
     let a = m.letter;
-    let n = target(cells[a * 250 + at - 1], used[a]);
+    let n = target(cells[a * Table::CELLS + at - 1], used[a]);
     if n == 0 {
         return m.stop(DAMAGED);
     }
@@ -88,7 +89,7 @@ pub fn end<'a>(
     if end < at {
         return m.stop(DAMAGED);
     }
-    let x = cells[a * 250 + at - 1];
+    let x = cells[a * Table::CELLS + at - 1];
     if at == end {
         if x == 1 {
             return m.leave(frames, 1);

@@ -2,10 +2,12 @@
 ghost use mathlib.Core.Path.{_≡_};
 ghost use Prim.Native.Nat.{_+_, _≤_, _<_};
 ghost use lib.ListN.{getD};
+ghost use Rattle.language.specs.Effects.{isValue};
 ghost use Rattle.language.specs.Store.{tableAt};
 ghost use Rattle.instructions.specs.Held.{Inside};
 ghost use Rattle.instructions.specs.Operands.{byteOf, byteAt, targetOf, exitOf, boundedOf, limitOf, printOf, printable};
 use crate::Machine;
+use language::Table;
 
 // A mark's byte; 256 for a transfer; 0 for what is neither.
 fn byte(x: i32) -> usize
@@ -37,7 +39,7 @@ pub fn byte_at<'a>(m: Machine, cells: &'a [i32; 6500], used: &'a [usize; 26]) ->
     if end - at < 2 {
         return 0;
     }
-    byte(cells[k * 250 + at - 1])
+    byte(cells[k * Table::CELLS + at - 1])
 }
 
 // A cell number within 2 to used, or 0.
@@ -62,7 +64,20 @@ pub fn exit_of<'a>(m: Machine, cells: &'a [i32; 6500], used: &'a [usize; 26]) ->
     if end < at + 3 {
         return 0;
     }
-    target(cells[k * 250 + at], end)
+    target(cells[k * Table::CELLS + at], end)
+}
+
+// "Values lie in ±999,999,999."
+pub fn is_value(v: i32) -> bool
+    ensures { λ r. ⌜ r ≡ isValue v ⌝ }
+{
+    if v < -999999999 {
+        return false;
+    }
+    if 999999999 < v {
+        return false;
+    }
+    true
 }
 
 // A number of at most most, or another: a variable's digit, a counter's order, a print's length.

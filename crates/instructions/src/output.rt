@@ -17,6 +17,7 @@ use crate::SPENT;
 use crate::operands::bounded;
 use crate::operands::print_byte;
 use crate::operands::prints;
+use language::Table;
 
 fn distance(v: i32) -> usize
     ensures { λ r. ⌜ r ≡ natAbs v ⌝ }
@@ -130,11 +131,11 @@ pub fn print<'a>(
     if end < at + 3 {
         return m.stop(DAMAGED);
     }
-    let n = bounded(cells[k * 250 + at], 250, 251);
+    let n = bounded(cells[k * Table::CELLS + at], 250, 251);
     if end < at + 3 + n {
         return m.stop(DAMAGED);
     }
-    let from = k * 250 + at + 1;
+    let from = k * Table::CELLS + at + 1;
     if !prints(cells, from, n) {
         return m.stop(DAMAGED);
     }

@@ -12,6 +12,7 @@ use crate::operands::bounded;
 use crate::operands::exit_of;
 use crate::operands::limit;
 use crate::operands::target;
+use language::Table;
 
 // The mark `N`.
 pub fn negative<'a>(
@@ -116,9 +117,9 @@ pub fn counter<'a>(
     if end < at + 5 {
         return m.stop(DAMAGED);
     }
-    let n = limit(cells[a * 250 + at]);
-    let k = bounded(cells[a * 250 + at + 1], 15, 16);
-    let f = target(cells[a * 250 + at + 2], end);
+    let n = limit(cells[a * Table::CELLS + at]);
+    let k = bounded(cells[a * Table::CELLS + at + 1], 15, 16);
+    let f = target(cells[a * Table::CELLS + at + 2], end);
     if n == 0 {
         return m.stop(DAMAGED);
     }
@@ -131,14 +132,14 @@ pub fn counter<'a>(
     if m.left == 0 {
         return m.stop(SPENT);
     }
-    let i = a * 16 + k;
+    let i = a * Table::COUNTERS + k;
     let c = counts[i];
     if c < n {
         counts[i] = c + 1;
         return m.go(at + 4, m.height);
     }
     // Never so. The test keeps this way a branch: a select of the two ways would wait for the count, at half the speed.
-    if 250 < f {
+    if Table::CELLS < f {
         return m.stop(DAMAGED);
     }
     counts[i] = 0;

@@ -13,6 +13,8 @@ use crate::Machine;
 use crate::NO_INPUT;
 use crate::SPENT;
 use crate::operands::bounded;
+use crate::operands::is_value;
+use language::Table;
 
 // A value is pushed, and the next cell is at.
 fn push(m: Machine, list: &mut [i32; 64], v: i32, at: usize) -> Machine
@@ -97,11 +99,8 @@ pub fn constant<'a>(
     if used[k] < at + 3 {
         return m.stop(DAMAGED);
     }
-    let v = cells[k * 250 + at];
-    if v < -999999999 {
-        return m.stop(DAMAGED);
-    }
-    if 999999999 < v {
+    let v = cells[k * Table::CELLS + at];
+    if !is_value(v) {
         return m.stop(DAMAGED);
     }
     if m.left == 0 {
@@ -126,7 +125,7 @@ pub fn fetch<'a>(
     if used[k] < at + 3 {
         return m.stop(DAMAGED);
     }
-    let d = bounded(cells[k * 250 + at], 10, 0);
+    let d = bounded(cells[k * Table::CELLS + at], 10, 0);
     if d == 0 {
         return m.stop(DAMAGED);
     }
@@ -152,7 +151,7 @@ pub fn save<'a>(
     if used[k] < at + 3 {
         return m.stop(DAMAGED);
     }
-    let d = bounded(cells[k * 250 + at], 10, 0);
+    let d = bounded(cells[k * Table::CELLS + at], 10, 0);
     if d == 0 {
         return m.stop(DAMAGED);
     }
