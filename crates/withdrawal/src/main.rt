@@ -1,0 +1,53 @@
+// A withdrawn letter pays no more through a letter that calls it. Letter p pays 5 and q calls p; p is withdrawn between two runs of q.
+use engine::Store;
+ghost use mathlib.Core.Path.{_≡_};
+ghost use lib.IntN.{pos};
+
+// The numbers of the three runs, and what the first one pays.
+pub struct Shown {
+    pub before: u32,
+    pub paid: i32,
+    pub after: u32,
+    pub withdrawn: u32,
+}
+
+// Define p, define q, run q, withdraw p, run q, run p.
+pub fn session() -> Shown
+    ensures { λ r. ⌜ r ≡ record { before = 0; paid = pos 5; after = 27; withdrawn = 10 } ⌝ }
+{
+    let none = [0i32; 0];
+    let mut list = [0i32; 64];
+    let mut list2 = [0i32; 64];
+    let mut list3 = [0i32; 64];
+    let mut output = [0u8; 16];
+    let mut output2 = [0u8; 16];
+    let mut output3 = [0u8; 16];
+    let p = Store::fresh().define(b'p', b"('/5';)");
+    let q = p.store.define(b'q', b"(p;)");
+    let first = q.store.run(b'q', 9, &none, &mut list, &mut output);
+    let x = first.store.withdraw(b'p');
+    let second = x.store.run(b'q', 9, &none, &mut list2, &mut output2);
+    let third = second.store.run(b'p', 9, &none, &mut list3, &mut output3);
+    Shown {
+        before: first.number,
+        paid: list[0],
+        after: second.number,
+        withdrawn: third.number,
+    }
+}
+
+fn line(text: &[u8], n: u32) {
+    io::write_all(1, text);
+    io::print_decimal(1, n as u64);
+    io::write_all(1, b"\n");
+}
+
+fn main() {
+    let s = session();
+    line(b"run of q, p standing: ", s.before);
+    if s.paid == 5 {
+        line(b"paid: ", 5);
+    }
+    line(b"run of q, p withdrawn: ", s.after);
+    line(b"run of p, withdrawn: ", s.withdrawn);
+}
