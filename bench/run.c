@@ -1,13 +1,22 @@
 /* Steps per second of the proved interpreter beside a plain C interpreter with the same checks, in one program. Each must be at most 1.3 times
-   slower than C. Build: rt staticlib bench, then
-   gcc -O3 bench/run.c target/staticlib/libbench.a -o target/bench && target/bench */
+   slower than C. bench/run-steps builds and runs it. */
 #include <stdint.h>
 #include <stdio.h>
 #include <string.h>
 #include <time.h>
 
-uint32_t rec_bench_run(const int32_t *cells, const size_t *used, const int32_t *vars, uint8_t letter, uint32_t allowance, const int32_t *inputs,
-                       size_t inputs_len, int32_t *list, size_t list_len, uint8_t *output, size_t output_len);
+uint32_t rec_run(const int32_t *cells, const size_t *used, int32_t *vars, uint8_t letter, uint32_t allowance, const int32_t *inputs, size_t inputs_len,
+                 int32_t *list, size_t list_len, uint8_t *output, size_t output_len, size_t *figures);
+
+/* the steps of a run; the variables of the store stay as they are */
+static uint32_t proved_run(const int32_t *cells, const size_t *used, const int32_t *vars_in, uint8_t letter, uint32_t allowance, const int32_t *inputs,
+                           size_t inputs_len, int32_t *list, size_t list_len, uint8_t *output, size_t output_len) {
+    int32_t vars[10];
+    size_t figures[5];
+    memcpy(vars, vars_in, sizeof vars);
+    rec_run(cells, used, vars, letter, allowance, inputs, inputs_len, list, list_len, output, output_len, figures);
+    return (uint32_t)figures[1];
+}
 
 /* ---- the plain C interpreter ---- */
 
@@ -221,7 +230,7 @@ static int compare(const char *name, uint32_t allowance, int runs) {
             double from = now();
             for (int i = 0; i < runs; i++)
                 s += who ? c_run(cells, used, vars, 'a', allowance, 0, 0, list[1], 64, output[1], 4096)
-                         : rec_bench_run(cells, used, vars, 'a', allowance, vars, 0, list[0], 64, output[0], 4096);
+                         : proved_run(cells, used, vars, 'a', allowance, vars, 0, list[0], 64, output[0], 4096);
             double took = now() - from;
             if (took < best[who]) best[who] = took;
             steps[who] = s;
@@ -254,7 +263,7 @@ int main(void) {
     bad |= compare("prints", 1000, 40000);
     PUT('a', 2000, 4, 0, 1); /* (;) */
     double from = now();
-    for (int i = 0; i < 1000000; i++) rec_bench_run(cells, used, vars, 'a', 1000, vars, 0, list[0], 64, output[0], 4096);
+    for (int i = 0; i < 1000000; i++) proved_run(cells, used, vars, 'a', 1000, vars, 0, list[0], 64, output[0], 4096);
     double ours = now() - from;
     from = now();
     for (int i = 0; i < 1000000; i++) c_run(cells, used, vars, 'a', 1000, 0, 0, list[1], 64, output[1], 4096);

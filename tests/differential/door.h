@@ -1,0 +1,15 @@
+/* The engine's run, for any store.
+ *
+ * cells: 26 tables of 250 cells, cell 1 of `a` first; used: 26 counts; vars: 10, variable 0 first, read and written back; figures: 5, truth, steps,
+ * height, taken, written. The result is the answer's number. No pointer is null. */
+#ifndef DOOR_H
+#define DOOR_H
+
+#include <stddef.h>
+#include <stdint.h>
+
+uint32_t rec_run(const int32_t *cells, const size_t *used, int32_t *vars, uint8_t letter, uint32_t allowance,
+                 const int32_t *input, size_t input_length, int32_t *list, size_t list_length,
+                 uint8_t *output, size_t output_length, size_t *figures);
+
+#endif

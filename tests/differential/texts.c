@@ -1,0 +1,502 @@
+#include "texts.h"
+
+#include <stdio.h>
+#include <string.h>
+
+/* ---- random numbers ---------------------------------------------------- */
+
+static uint64_t random_word(struct random *r)
+{
+    uint64_t z = r->state += 0x9e3779b97f4a7c15u;
+    z = (z ^ (z >> 30)) * 0xbf58476d1ce4e5b9u;
+    z = (z ^ (z >> 27)) * 0x94d049bb133111ebu;
+    return z ^ (z >> 31);
+}
+
+void random_seed(struct random *r, uint64_t seed)
+{
+    r->state = seed;
+    r->state = random_word(r);
+}
+
+uint32_t random_bits(struct random *r)
+{
+    return (uint32_t)(random_word(r) >> 32);
+}
+
+uint32_t below(struct random *r, uint32_t limit)
+{
+    return (uint32_t)(((uint64_t)random_bits(r) * limit) >> 32);
+}
+
+int32_t between(struct random *r, int32_t low, int32_t high)
+{
+    return low + (int32_t)below(r, (uint32_t)(high - low) + 1);
+}
+
+bool chance(struct random *r, uint32_t percent)
+{
+    return below(r, 100) < percent;
+}
+
+int32_t random_value(struct random *r)
+{
+    static const int32_t edges[] = {0, 1, -1, 2, 999999999, -999999999, 999999998,
+                                    31622, 31623, -31623, 500000000, 99, 100, 101};
+    switch (below(r, 8)) {
+    case 0:
+        return edges[below(r, sizeof edges / sizeof edges[0])];
+    case 1:
+        return between(r, -999999999, 999999999);
+    case 2:
+        return between(r, -99999, 99999);
+    case 3:
+        return -between(r, 0, 20);
+    case 4:
+        return between(r, 0, 99);
+    default:
+        return between(r, 0, 9);
+    }
+}
+
+/* ---- building texts ---------------------------------------------------- */
+
+void text_clear(struct text *text)
+{
+    text->length = 0;
+}
+
+void text_byte(struct text *text, uint8_t byte)
+{
+    if (text->length < TEXT_ROOM)
+        text->bytes[text->length++] = byte;
+}
+
+void text_add(struct text *text, const char *words)
+{
+    for (; *words; words++)
+        text_byte(text, (uint8_t)*words);
+}
+
+void text_number(struct text *text, long long number)
+{
+    char words[32];
+    snprintf(words, sizeof words, "%lld", number);
+    text_add(text, words);
+}
+
+void text_fill(struct text *text, const char *words, size_t times)
+{
+    while (times-- > 0)
+        text_add(text, words);
+}
+
+/* ---- random texts ------------------------------------------------------ */
+
+struct maker {
+    struct random *r;
+    const struct taste *taste;
+    struct text *text;
+    int height; /* fewest values the list may have here */
+    size_t level;
+    size_t counters;
+    size_t cells; /* about */
+};
+
+static bool room(const struct maker *m)
+{
+    return m->text->length < m->taste->size && m->cells < 235;
+}
+
+static void space(struct maker *m)
+{
+    static const char *const comments[] = {"\"\"", "\" \"", "\"it's (so)\"",
+                                           "\"$0$\"", "\"x\" "};
+    if (!chance(m->r, m->taste->spaces))
+        return;
+    if (chance(m->r, 80))
+        text_add(m->text, chance(m->r, 80) ? " " : "  ");
+    else
+        text_add(m->text, comments[below(m->r, 5)]);
+}
+
+static void mark(struct maker *m, const char *words, size_t cells)
+{
+    text_add(m->text, words);
+    m->cells += cells;
+    space(m);
+}
+
+static void mark_byte(struct maker *m, uint8_t byte, size_t cells)
+{
+    char words[2] = {(char)byte, 0};
+    mark(m, words, cells);
+}
+
+static void constant(struct maker *m, int32_t value)
+{
+    char words[32];
+    if (value < 0)
+        snprintf(words, sizeof words, "'/-%d'", -value);
+    else if (value < 1000 && chance(m->r, 5))
+        snprintf(words, sizeof words, "'/%s%0*d'", value == 0 ? "-" : "",
+                 between(m->r, 1, 9), value);
+    else
+        snprintf(words, sizeof words, "'/%d'", value);
+    mark(m, words, 2);
+    m->height++;
+}
+
+static void indexed(struct maker *m, char letter)
+{
+    char words[3] = {letter, (char)('0' + below(m->r, 10)), 0};
+    if (chance(m->r, 60))
+        words[1] = (char)('1' + below(m->r, 3));
+    mark(m, words, 2);
+    if (letter == 'F')
+        m->height++;
+}
+
+static void counter(struct maker *m, int n)
+{
+    char words[16];
+    snprintf(words, sizeof words, chance(m->r, 5) && n < 100 ? "$%03d$" : "$%d$", n);
+    mark(m, words, 4);
+    m->counters++;
+}
+
+static int small_n(struct maker *m)
+{
+    switch (below(m->r, 20)) {
+    case 0:
+        return between(m->r, 10, 70);
+    case 1:
+        return between(m->r, 100, 9999);
+    default:
+        return between(m->r, 1, 6);
+    }
+}
+
+static void print(struct maker *m)
+{
+    size_t length = chance(m->r, 15) ? 0 : (size_t)between(m->r, 1, 8);
+    text_add(m->text, "''");
+    for (size_t i = 0; i < length; i++) {
+        uint8_t byte = (uint8_t)between(m->r, 32, 126);
+        text_byte(m->text, byte == '\'' ? '"' : byte);
+    }
+    mark(m, "'", 2 + length);
+}
+
+static void push_something(struct maker *m)
+{
+    uint32_t pick = below(m->r, 20);
+    if (pick < 3) {
+        indexed(m, 'F');
+    } else if (pick < 6) {
+        mark(m, "I", 1);
+        m->height++;
+    } else if (pick < 8 && m->height > 0) {
+        mark(m, "P", 1);
+        m->height++;
+    } else {
+        constant(m, random_value(m->r));
+    }
+}
+
+static void call(struct maker *m)
+{
+    const struct taste *t = m->taste;
+    if (t->letter_count == 0 || chance(m->r, 3))
+        mark_byte(m, (uint8_t)between(m->r, 'a', 'z'), 2);
+    else
+        mark_byte(m, t->letters[below(m->r, (uint32_t)t->letter_count)], 2);
+}
+
+static void expression(struct maker *m);
+
+/* Something that may be false. */
+static void predicate(struct maker *m, int have)
+{
+    uint32_t pick = below(m->r, 12);
+    if (pick < 3 && have > 0)
+        mark(m, chance(m->r, 50) ? "N" : "0", 2);
+    else if (pick < 5 && have > 1)
+        mark(m, "J", 2);
+    else if (pick < 8 && m->level < 10 && room(m))
+        expression(m);
+    else if (pick < 9 && m->taste->calls > 0)
+        call(m);
+    else if (m->counters < 16)
+        counter(m, small_n(m));
+    else
+        mark(m, have > 0 ? "0" : "(:)", 2);
+}
+
+static void operate(struct maker *m, int have)
+{
+    static const char *const unary[] = {"A", "M", "O", "P", "L"};
+    static const char *const binary[] = {"+", "-", "*", "/"};
+    uint32_t pick = below(m->r, 12);
+    if (pick < 5 && have > 1) {
+        mark(m, binary[below(m->r, 4)], 1);
+        m->height--;
+    } else if (pick < 9 && have > 0) {
+        const char *words = unary[below(m->r, 5)];
+        mark(m, words, 1);
+        m->height += words[0] == 'P' ? 1 : words[0] == 'L' ? -1 : 0;
+    } else if (pick < 10 && have > 0) {
+        indexed(m, 'S');
+    } else if (pick < 11) {
+        print(m);
+    } else {
+        mark(m, "X", 1);
+    }
+    if (m->height < 0)
+        m->height = 0;
+}
+
+/* Small loops and recipes that are known to do something. */
+static void recipe(struct maker *m)
+{
+    char words[64];
+    int n = small_n(m);
+    switch (below(m->r, 11)) {
+    case 0: /* count down to zero */
+        snprintf(words, sizeof words, "'/%d'(0;'/1'-:)L", n);
+        mark(m, words, 11);
+        break;
+    case 1: /* add inputs */
+        snprintf(words, sizeof words, "'/0'($%d$I+:;)", between(m->r, 1, 4));
+        mark(m, words, 11);
+        m->counters++;
+        m->height++;
+        break;
+    case 2: /* move a variable on */
+        mark(m, "F1'/1'+S1L", 8);
+        break;
+    case 3: /* change places */
+        if (m->height > 1)
+            mark(m, "S8LS0LF8F0", 10);
+        break;
+    case 4: /* absolute value, the long way */
+        if (m->height > 0)
+            mark(m, "(NM;;)", 6);
+        break;
+    case 5: /* a predicate and its opposite */
+        if (m->height > 0)
+            mark(m, chance(m->r, 50) ? "(N)" : "((0))", 4);
+        break;
+    case 6: /* a row of prints */
+        snprintf(words, sizeof words, "($%d$''ab'X:;)", n);
+        mark(m, words, 11);
+        m->counters++;
+        break;
+    case 7: /* powers of two */
+        snprintf(words, sizeof words, "'/1'($%d$P+:;)", between(m->r, 1, 31));
+        mark(m, words, 11);
+        m->counters++;
+        m->height++;
+        break;
+    case 8: /* many values */
+        n = between(m->r, 1, chance(m->r, 70) ? 9 : 66);
+        snprintf(words, sizeof words, "($%d$'/%d':;)", n, n);
+        mark(m, words, 9);
+        m->counters++;
+        m->height += n;
+        break;
+    case 9: /* divide */
+        snprintf(words, sizeof words, "'/%d''/%d'/", between(m->r, -99, 99),
+                 between(m->r, -4, 4));
+        mark(m, words, 5);
+        m->height++;
+        break;
+    default: /* print what stands on top */
+        if (m->height > 0)
+            mark(m, "OX", 2);
+        break;
+    }
+}
+
+static void item(struct maker *m)
+{
+    int have = chance(m->r, m->taste->wild) ? 99 : m->height;
+    if (chance(m->r, m->taste->calls)) {
+        call(m);
+        return;
+    }
+    switch (below(m->r, 10)) {
+    case 0: case 1: case 2:
+        push_something(m);
+        break;
+    case 3: case 4: case 5: case 6:
+        operate(m, have);
+        break;
+    case 7: case 8:
+        predicate(m, have);
+        break;
+    default:
+        recipe(m);
+        break;
+    }
+}
+
+/* Brings the list back to a height before a loop goes round. */
+static void level_list(struct maker *m, int height)
+{
+    while (m->height > height && room(m)) {
+        mark(m, "L", 1);
+        m->height--;
+    }
+    while (m->height < height && room(m))
+        constant(m, between(m->r, 0, 9));
+}
+
+static int lower(int a, int b)
+{
+    return a < b ? a : b;
+}
+
+static void segment(struct maker *m, bool last, bool again, int start, int *low)
+{
+    int items = between(m->r, 0, 5);
+    int testing = last || chance(m->r, 10) ? -1 : between(m->r, 0, items);
+    if (again && chance(m->r, m->taste->endless))
+        testing = -1;
+    *low = 1000;
+    for (int i = 0; i <= items && room(m); i++) {
+        if (i == testing) {
+            if (again && m->counters < 16 && chance(m->r, 70))
+                counter(m, small_n(m));
+            else
+                predicate(m, m->height);
+            *low = lower(*low, m->height);
+        } else {
+            item(m);
+        }
+    }
+    *low = lower(*low, m->height);
+    if (again && chance(m->r, 85))
+        level_list(m, start);
+}
+
+static void expression(struct maker *m)
+{
+    static const int many[] = {1, 1, 1, 2, 2, 2, 2, 3, 3, 4};
+    int segments = many[below(m->r, 10)];
+    int start = m->height;
+    int leaving = 1000;
+    mark(m, "(", 0);
+    m->level++;
+    for (int i = 0; i < segments; i++) {
+        bool last = i == segments - 1;
+        bool again = !last && chance(m->r, 35);
+        int low;
+        segment(m, last, again, start, &low);
+        if (last)
+            mark(m, ")", 1);
+        else if (again)
+            mark(m, chance(m->r, 80) ? ":" : ".", 1);
+        else
+            mark(m, chance(m->r, 80) ? ";" : ",", 1);
+        if (!again)
+            leaving = lower(leaving, m->height);
+        m->height = low;
+    }
+    m->level--;
+    m->height = lower(leaving, m->height);
+}
+
+struct taste random_taste(struct random *r, const uint8_t *letters, size_t count)
+{
+    struct taste taste;
+    taste.size = (size_t)between(r, 2, chance(r, 30) ? 230 : 80);
+    taste.wild = chance(r, 70) ? 1 : (uint32_t)between(r, 0, 30);
+    taste.calls = chance(r, 50) ? 0 : (uint32_t)between(r, 2, 25);
+    taste.spaces = chance(r, 60) ? 0 : (uint32_t)between(r, 1, 20);
+    taste.endless = chance(r, 80) ? 3 : 50;
+    taste.letters = letters;
+    taste.letter_count = count;
+    return taste;
+}
+
+void text_random(struct random *r, const struct taste *taste, struct text *text)
+{
+    struct maker m = {r, taste, text, 0, 0, 0, 3};
+    text_clear(text);
+    space(&m);
+    expression(&m);
+    space(&m);
+}
+
+/* ---- spoiling ---------------------------------------------------------- */
+
+static uint8_t odd_byte(struct random *r)
+{
+    static const char marks[] = "()()()();;::,.AFLIMNOPSXJ0123456789''''//$$$\"\"-+* aqz";
+    if (chance(r, 75))
+        return (uint8_t)marks[below(r, sizeof marks - 1)];
+    return (uint8_t)below(r, 256);
+}
+
+static void insert_byte(struct text *text, size_t at, uint8_t byte)
+{
+    if (text->length == TEXT_ROOM)
+        return;
+    memmove(text->bytes + at + 1, text->bytes + at, text->length - at);
+    text->bytes[at] = byte;
+    text->length++;
+}
+
+static void repeat_part(struct random *r, struct text *text)
+{
+    size_t from = below(r, (uint32_t)text->length);
+    size_t part = 1 + below(r, (uint32_t)(text->length - from));
+    if (text->length + part > TEXT_ROOM)
+        return;
+    memmove(text->bytes + from + part, text->bytes + from, text->length - from);
+    text->length += part;
+}
+
+static void drop_part(struct random *r, struct text *text)
+{
+    size_t from = below(r, (uint32_t)text->length);
+    size_t part = 1 + below(r, (uint32_t)(text->length - from));
+    if (part > 4 && chance(r, 80))
+        part = 1;
+    memmove(text->bytes + from, text->bytes + from + part,
+            text->length - from - part);
+    text->length -= part;
+}
+
+static void spoil_once(struct random *r, struct text *text)
+{
+    if (text->length == 0) {
+        text_byte(text, odd_byte(r));
+        return;
+    }
+    switch (below(r, 8)) {
+    case 0: case 1: case 2:
+        text->bytes[below(r, (uint32_t)text->length)] = odd_byte(r);
+        break;
+    case 3: case 4:
+        insert_byte(text, below(r, (uint32_t)text->length + 1), odd_byte(r));
+        break;
+    case 5:
+        repeat_part(r, text);
+        break;
+    case 6:
+        drop_part(r, text);
+        break;
+    default:
+        text->length = below(r, (uint32_t)text->length + 1);
+        break;
+    }
+}
+
+void text_spoil(struct random *r, struct text *text)
+{
+    int edits = chance(r, 70) ? 1 : between(r, 2, 6);
+    while (edits-- > 0)
+        spoil_once(r, text);
+}
