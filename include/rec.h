@@ -34,7 +34,7 @@
  *   29  damaged          the due cell is not one of a linked table
  */
 
-/* 0 where the text links, else the number of its refusal. Every text of every length has an answer. `text` may be null where `length` is 0. */
+/* 0 where the text links, else the number of its refusal. Every text of every length has an answer. */
 int32_t rec_check(const uint8_t *text, size_t length);
 
 /*

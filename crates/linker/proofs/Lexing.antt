@@ -15,8 +15,10 @@ use Rattle.language.specs.declared.Refusal.the-variants.{StrayMark, BadCounter}
 use Rattle.language.specs.Syntax.{Access, variable, print}
 use Rattle.language.specs.Tokens.{Token, does, counts, faults, between, Class, class, digitCell}
 use Rattle.language.specs.Tokens.{Form, counterForm, mostDigits, closingByte, formFault, constantForm, Mode, idle, comment, after-tick, after-slash, after-access, number, printing}
-use Rattle.linker.specs.Lexing.{Means, Lexes, Takes}
+use Rattle.linker.specs.Lexing.{Skips, Means, Lexes, Takes}
 use Rattle.linker.specs.declared.lexer.Lexed.{Lexed}
+use Rattle.linker.specs.declared.lexer.Skipped.{Skipped}
+use Rattle.linker.specs.declared.lexer.Skipped.the-variants as S
 use Rattle.language.specs.Tokens.{unless, first, numeral, numbered, scanNumber, slashed, ticked, accessed, printed, commented, scan, finish, tokens}
 
 pub between-true : (a b n : ℕ) → a ≤ n → n ≤ b → between a b n ≡ true
@@ -230,3 +232,8 @@ takes-after t t′ s a b r e h q =
 pub tokens-first : (s : List ℕ) (i : ℕ) → i < length s → (c : Class) → class (getD s i 0) ≡ c → tokens (drop i s) idle ≡ first c (λ m. tokens (drop (i + 1) s) m)
 unfolding scan
 tokens-first s i h c e = tokens-at s i idle h ∙ ap (λ c. first c (λ m. tokens (drop (i + 1) s) m)) e
+
+-- what is skipped from further on, where the tokens are those from here
+pub skips-from : (t t′ : List Token) (s : List ℕ) (a b : ℕ) (r : Skipped) → t ≡ t′ → a ≤ b → Skips t′ s b r → Skips t s a r
+skips-from t t′ s a b (S.To n) e h q = (e ∙ q .0, (omega (arith, q .1 .0), q .1 .1))
+skips-from t t′ s a b (S.Refused r) e h q = e ∙ q

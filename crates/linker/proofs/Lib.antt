@@ -1,6 +1,5 @@
 pub mod Bytes
 pub mod Ints
-pub mod Tags
 pub mod Sorts
 pub mod Lexing
 pub mod Drafts

@@ -1,26 +1,28 @@
 -- A whole text: its length, what stands before the outermost `(`, the first pass, and what stands after the last `)`.
-use mathlib.Core.Path.{_≡_, refl, sym, ap, _∙_, subst}
-use mathlib.Core.List.{List, []}
-use Prim.Native.Nat.{ℕ, _≤_, _<_}
+use mathlib.Core.Path.{_≡_, refl, sym, ap, _∙_}
+use mathlib.Core.List.{List, [], _∷_}
+use Prim.Native.Nat.{ℕ, _+_, _≤_, _<_}
 use lib.IntN.{ℤ}
 use lib.ListN.{length, getD, drop}
+use lib.Dec.{T}
 use borrow.Author.Tests.{le-leb, lt-leb}
 use Rattle.language.specs.Answers.{refusalNumber}
-use Rattle.language.specs.declared.Refusal.the-variants.{LongText}
+use Rattle.language.specs.declared.Refusal.{Refusal}
+use Rattle.language.specs.declared.Refusal.the-variants.{LongText, StrayMark, Unfinished}
 use Rattle.language.specs.Syntax.{Expr}
-use Rattle.language.specs.Tokens.{Token, idle, tokens}
+use Rattle.language.specs.Tokens.{Token, faults, Class, blank, quote, opening, closing, semicolon, point, dollar, tick, stray, operating, accessing, comparing, calling, class}
+use Rattle.language.specs.Tokens.{Mode, idle, first, finish, tokens}
 use Rattle.language.specs.Layout.{layout, cleared}
-use Rattle.language.specs.Reading.{refused, accepted, outside, inside, whole, require, starting, ending, parse, read}
+use Rattle.language.specs.Reading.{refused, accepted, outside, whole, require, starting, ending, parse, read}
 use Rattle.linker.specs.declared.Linked.{Linked}
-use Rattle.linker.specs.declared.lexer.Token as Lexer
-use Rattle.linker.specs.declared.lexer.Token.the-variants as T
-use Rattle.linker.specs.declared.lexer.Lexed.{Lexed}
 use Rattle.linker.specs.declared.pass.Scanned.{Scanned}
-use Rattle.linker.specs.Lexing.{Means, Takes, NotBlank, outsideOf}
+use Rattle.linker.specs.Lexing.{MarkAt}
 use Rattle.linker.specs.Linked.{linked}
 use Rattle.linker.specs.Exits.{linkedCells}
 use Rattle.linker.specs.Scanning.{parsedFrom, Scans, stops, ends}
 use Rattle.linker.proofs.Scanning.{refusal-some}
+use Rattle.linker.proofs.Sorts.{isMark, isOther, a-mark, no-opening, the-opening}
+use Rattle.linker.proofs.Lexing.{tokens-end, tokens-first}
 
 -- ── the length ──────────────────────────────────────────────────────────────────────────────────
 
@@ -35,93 +37,124 @@ read-short s h = simp (le-leb (length s) 256 h)
 pub link-long : (s : List ℕ) → 256 < length s → linked (read s) ≡ record { number = 2; table = cleared }
 link-long s h = ap linked (read-long s h)
 
--- ── before the outermost `(` ────────────────────────────────────────────────────────────────────
+-- ── before the outermost `(` and after the last `)` ─────────────────────────────────────────────
 
-module _ (s : List ℕ) (ts l : List Token) where
-  starts-refused : (t : Lexer.Token) → Means s t ts l → NotBlank t → (t ≡ T.Open → ⊥) → parse ts outside ≡ refused (outsideOf t)
-  unfolding parse starting
-  starts-refused T.Blank m b n = absurd (b refl)
-  starts-refused T.End m b n = ap (λ t. parse t outside) m
-  starts-refused (T.Fault r) m b n = ap (λ t. parse t outside) m
-  starts-refused (T.Broken r) m b n = ap (λ t. parse t outside) m
-  starts-refused T.Open m b n = absurd (n refl)
-  starts-refused T.Close m b n = ap (λ t. parse t outside) m
-  starts-refused T.Semicolon m b n = ap (λ t. parse t outside) m
-  starts-refused T.Colon m b n = ap (λ t. parse t outside) m
-  starts-refused (T.Operator k) m b n = ap (λ t. parse t outside) (m .2)
-  starts-refused (T.Variable k d) m b n = ap (λ t. parse t outside) (m .2)
-  starts-refused (T.Condition k) m b n = ap (λ t. parse t outside) (m .2)
-  starts-refused (T.Call k) m b n = ap (λ t. parse t outside) (m .2)
-  starts-refused (T.Counter k) m b n = ap (λ t. parse t outside) (m .3)
-  starts-refused (T.Constant v) m b n = ap (λ t. parse t outside) m
-  starts-refused (T.Print a k) m b n = ap (λ t. parse t outside) (m .1)
+stray-before : (c : Class) (k : Mode → List Token) → T (isOther c) → parse (first c k) outside ≡ refused StrayMark
+unfolding first parse starting
+stray-before blank k t = absurd t
+stray-before quote k t = absurd t
+stray-before opening k t = absurd t
+stray-before closing k t = refl
+stray-before semicolon k t = refl
+stray-before point k t = refl
+stray-before (operating o) k t = refl
+stray-before (accessing a) k t = refl
+stray-before (comparing c) k t = refl
+stray-before (calling a) k t = refl
+stray-before dollar k t = refl
+stray-before tick k t = refl
+stray-before stray k t = refl
 
-  starts-open : Means s T.Open ts l → parse ts outside ≡ parse l (inside (λ e. e) [] 2 0)
-  unfolding parse starting
-  starts-open m = ap (λ t. parse t outside) m
+stray-after : (c : Class) (k : Mode → List Token) (w : Expr) → T (isMark c) → parse (first c k) (whole w) ≡ refused StrayMark
+unfolding first parse ending
+stray-after blank k w t = absurd t
+stray-after quote k w t = absurd t
+stray-after opening k w t = refl
+stray-after closing k w t = refl
+stray-after semicolon k w t = refl
+stray-after point k w t = refl
+stray-after (operating o) k w t = refl
+stray-after (accessing a) k w t = refl
+stray-after (comparing c) k w t = refl
+stray-after (calling a) k w t = refl
+stray-after dollar k w t = refl
+stray-after tick k w t = refl
+stray-after stray k w t = refl
 
-  -- ── after the last `)` ────────────────────────────────────────────────────────────────────────
+before-fault : (t : List Token) (r : Refusal) → t ≡ faults r ∷ [] → parse t outside ≡ refused r
+unfolding parse starting
+before-fault t r e = ap (λ t. parse t outside) e
 
-  ends-refused : (w : Expr) (t : Lexer.Token) → Means s t ts l → NotBlank t → (t ≡ T.End → ⊥) → parse ts (whole w) ≡ refused (outsideOf t)
-  unfolding parse ending
-  ends-refused w T.Blank m b n = absurd (b refl)
-  ends-refused w T.End m b n = absurd (n refl)
-  ends-refused w (T.Fault r) m b n = ap (λ t. parse t (whole w)) m
-  ends-refused w (T.Broken r) m b n = ap (λ t. parse t (whole w)) m
-  ends-refused w T.Open m b n = ap (λ t. parse t (whole w)) m
-  ends-refused w T.Close m b n = ap (λ t. parse t (whole w)) m
-  ends-refused w T.Semicolon m b n = ap (λ t. parse t (whole w)) m
-  ends-refused w T.Colon m b n = ap (λ t. parse t (whole w)) m
-  ends-refused w (T.Operator k) m b n = ap (λ t. parse t (whole w)) (m .2)
-  ends-refused w (T.Variable k d) m b n = ap (λ t. parse t (whole w)) (m .2)
-  ends-refused w (T.Condition k) m b n = ap (λ t. parse t (whole w)) (m .2)
-  ends-refused w (T.Call k) m b n = ap (λ t. parse t (whole w)) (m .2)
-  ends-refused w (T.Counter k) m b n = ap (λ t. parse t (whole w)) (m .3)
-  ends-refused w (T.Constant v) m b n = ap (λ t. parse t (whole w)) m
-  ends-refused w (T.Print a k) m b n = ap (λ t. parse t (whole w)) (m .1)
+after-fault : (t : List Token) (r : Refusal) (w : Expr) → t ≡ faults r ∷ [] → parse t (whole w) ≡ refused r
+unfolding parse ending
+after-fault t r w e = ap (λ t. parse t (whole w)) e
 
-  ends-accepted : (w : Expr) → Means s T.End ts l → parse ts (whole w) ≡ accepted w
-  unfolding parse ending
-  ends-accepted w m = ap (λ t. parse t (whole w)) m
+before-end : (s : List ℕ) (i : ℕ) → length s ≤ i → parse (tokens (drop i s) idle) outside ≡ refused Unfinished
+unfolding finish parse starting
+before-end s i h = ap (λ t. parse t outside) (tokens-end s i idle h)
+
+after-end : (s : List ℕ) (i : ℕ) (w : Expr) → length s ≤ i → parse (tokens (drop i s) idle) (whole w) ≡ accepted w
+unfolding finish parse ending
+after-end s i w h = ap (λ t. parse t (whole w)) (tokens-end s i idle h)
+
+module _ (s : List ℕ) (i : ℕ) (h : i < length s) (byte : getD s i 0 < 256) (mark : MarkAt s i) where
+  before-stray : (getD s i 0 ≡ 40 → ⊥) → parse (tokens (drop i s) idle) outside ≡ refused StrayMark
+  before-stray n =
+      ap (λ t. parse t outside) (tokens-first s i h _ refl)
+      ∙ stray-before (class (getD s i 0)) _ (no-opening (getD s i 0) byte (mark h .0) (mark h .1 .0) (mark h .1 .1) n)
+
+  before-open : getD s i 0 ≡ 40 → parse (tokens (drop i s) idle) outside ≡ parsedFrom s (i + 1)
+  unfolding first parse starting
+  before-open e = ap (λ t. parse t outside) (tokens-first s i h opening (the-opening (getD s i 0) e))
+
+  after-stray : (w : Expr) → parse (tokens (drop i s) idle) (whole w) ≡ refused StrayMark
+  after-stray w =
+      ap (λ t. parse t (whole w)) (tokens-first s i h _ refl)
+      ∙ stray-after (class (getD s i 0)) _ w (a-mark (getD s i 0) byte (mark h .0) (mark h .1 .0) (mark h .1 .1))
 
 -- ── the text ────────────────────────────────────────────────────────────────────────────────────
 
 abbrev pub refusedAs : ℕ → Linked
 refusedAs n = record { number = n; table = cleared }
 
-module _ (s : List ℕ) (short : length s ≤ 256) (first : Lexed) (takes : Takes (tokens s idle) s 0 first) where
-  pub link-outside : NotBlank (first .token) → (first .token ≡ T.Open → ⊥) → linked (read s) ≡ refusedAs (refusalNumber (outsideOf (first .token)))
-  link-outside b n = ap linked (read-short s short ∙ starts-refused s (tokens s idle) _ (first .token) (takes .means) b n)
+module _ (s : List ℕ) (short : length s ≤ 256) where
+  pub link-unskipped : (r : Refusal) → tokens s idle ≡ faults r ∷ [] → linked (read s) ≡ refusedAs (refusalNumber r)
+  link-unskipped r e = ap linked (read-short s short ∙ before-fault (tokens s idle) r e)
 
-  module _ (opened : first .token ≡ T.Open) (z : Scanned) (C : List ℤ) (K L : List ℕ) where
-    read-inside : read s ≡ parsedFrom s (first .next)
-    read-inside =
-        read-short s short
-        ∙ starts-open s (tokens s idle) _ (subst (λ t. Means s t (tokens s idle) (tokens (drop (first .next) s) idle)) opened (takes .means))
+  module _ (i : ℕ) (skipped : tokens s idle ≡ tokens (drop i s) idle) where
+    read-at : read s ≡ parse (tokens (drop i s) idle) outside
+    read-at = read-short s short ∙ ap (λ t. parse t outside) skipped
 
-    pub link-stopped : Scans s (first .next) z C K L → (z .pass .fault ≡ 0 → ⊥) → linked (read s) ≡ refusedAs (z .pass .fault)
-    link-stopped (stops why p k) n = ap linked (read-inside ∙ p) ∙ ap refusedAs (sym k)
-    link-stopped (ends w p k i r) n = absurd (n k)
+    pub link-empty : length s ≤ i → linked (read s) ≡ refusedAs 7
+    link-empty h = ap linked (read-at ∙ before-end s i h)
 
-    pub scanned-on : Scans s (first .next) z C K L → z .pass .fault ≡ 0 → z .next ≤ length s
-    scanned-on (stops why p k) e = absurd (refusal-some why (sym k ∙ e))
-    scanned-on (ends w p k i r) e = i
+    module _ (h : i < length s) (byte : getD s i 0 < 256) (mark : MarkAt s i) where
+      pub link-stray : (getD s i 0 ≡ 40 → ⊥) → linked (read s) ≡ refusedAs 3
+      link-stray n = ap linked (read-at ∙ before-stray s i h byte mark n)
 
-    pub scanned-ready : Scans s (first .next) z C K L → z .pass .fault ≡ 0 → (z .pass .used ≤ 250) × ((k : ℕ) → getD L k 0 < 11)
-    scanned-ready (stops why p k) e = absurd (refusal-some why (sym k ∙ e))
-    scanned-ready (ends w p k i r) e = (r .small, r .shallow)
+      module _ (open-byte : getD s i 0 ≡ 40) (z : Scanned) (C : List ℤ) (K L : List ℕ) where
+        read-inside : read s ≡ parsedFrom s (i + 1)
+        read-inside = read-at ∙ before-open s i h byte mark open-byte
 
-    module _ (last : Lexed) (goes-on : Takes (tokens (drop (z .next) s) idle) s (z .next) last) where
-      pub link-after : Scans s (first .next) z C K L → z .pass .fault ≡ 0 → NotBlank (last .token) → (last .token ≡ T.End → ⊥)
-          → linked (read s) ≡ refusedAs (refusalNumber (outsideOf (last .token)))
-      link-after (stops why p k) e b n = absurd (refusal-some why (sym k ∙ e))
-      link-after (ends w p k i r) e b n = ap linked (read-inside ∙ p ∙ ends-refused s _ _ w (last .token) (goes-on .means) b n)
+        pub link-stopped : Scans s (i + 1) z C K L → (z .pass .fault ≡ 0 → ⊥) → linked (read s) ≡ refusedAs (z .pass .fault)
+        link-stopped (stops why p k) n = ap linked (read-inside ∙ p) ∙ ap refusedAs (sym k)
+        link-stopped (ends w p k j r) n = absurd (n k)
 
-      pub link-whole : Scans s (first .next) z C K L → z .pass .fault ≡ 0 → last .token ≡ T.End → (cells : List ℤ) → cells ≡ linkedCells C K L (z .pass .used)
-          → record { number = 0; table = record { used = z .pass .used; cells = cells } } ≡ linked (read s)
-      link-whole (stops why p k) e q cells c = absurd (refusal-some why (sym k ∙ e))
-      link-whole (ends w p k i r) e q cells c =
-          sym (ap linked (read-inside ∙ p
-          ∙ ends-accepted s (tokens (drop (z .next) s) idle) (tokens (drop (last .next) s) idle) w (subst (λ t. Means s t (tokens (drop (z .next) s) idle) (tokens (drop (last .next) s) idle)) q (goes-on .means)))
-          ∙ ap (λ u. record { number = 0; table = record { used = u; cells = layout w .cells } }) (sym (r .all))
-          ∙ ap (λ x. record { number = 0; table = record { used = z .pass .used; cells = x } }) (sym (c ∙ r .cells-are)))
+        pub link-unskipped-after : Scans s (i + 1) z C K L → z .pass .fault ≡ 0 → (r : Refusal) → tokens (drop (z .next) s) idle ≡ faults r ∷ []
+            → linked (read s) ≡ refusedAs (refusalNumber r)
+        link-unskipped-after (stops why p k) e r q = absurd (refusal-some why (sym k ∙ e))
+        link-unskipped-after (ends w p k j x) e r q = ap linked (read-inside ∙ p ∙ after-fault _ r w q)
+
+        module _ (j : ℕ) (skipped-after : tokens (drop (z .next) s) idle ≡ tokens (drop j s) idle) where
+          pub link-stray-after : Scans s (i + 1) z C K L → z .pass .fault ≡ 0 → j < length s → getD s j 0 < 256 → MarkAt s j → linked (read s) ≡ refusedAs 3
+          link-stray-after (stops why p k) e l b m = absurd (refusal-some why (sym k ∙ e))
+          link-stray-after (ends w p k x r) e l b m = ap linked (read-inside ∙ p ∙ ap (λ t. parse t (whole w)) skipped-after ∙ after-stray s j l b m w)
+
+          pub link-whole : Scans s (i + 1) z C K L → z .pass .fault ≡ 0 → length s ≤ j → (cells : List ℤ) → cells ≡ linkedCells C K L (z .pass .used)
+              → record { number = 0; table = record { used = z .pass .used; cells = cells } } ≡ linked (read s)
+          link-whole (stops why p k) e l cells c = absurd (refusal-some why (sym k ∙ e))
+          link-whole (ends w p k x r) e l cells c =
+              sym
+              (ap linked (read-inside ∙ p ∙ ap (λ t. parse t (whole w)) skipped-after ∙ after-end s j w l)
+              ∙ ap (λ u. record { number = 0; table = record { used = u; cells = layout w .cells } }) (sym (r .all))
+              ∙ ap (λ x. record { number = 0; table = record { used = z .pass .used; cells = x } }) (sym (c ∙ r .cells-are)))
+
+-- what the scan leaves for the rest of the text
+module _ (s : List ℕ) (from : ℕ) (z : Scanned) (C : List ℤ) (K L : List ℕ) where
+  pub scanned-on : Scans s from z C K L → z .pass .fault ≡ 0 → z .next ≤ length s
+  scanned-on (stops why p k) e = absurd (refusal-some why (sym k ∙ e))
+  scanned-on (ends w p k i r) e = i
+
+  pub scanned-ready : Scans s from z C K L → z .pass .fault ≡ 0 → (z .pass .used ≤ 250) × ((k : ℕ) → getD L k 0 < 11)
+  scanned-ready (stops why p k) e = absurd (refusal-some why (sym k ∙ e))
+  scanned-ready (ends w p k i r) e = (r .small, r .shallow)

@@ -84,7 +84,6 @@ pub fine : (s : List ℕ) (t : Lexer.Token) (l l′ : List Token) → Means s t 
 fine s T.Blank l l′ m = tt
 fine s T.End l l′ m = tt
 fine s (T.Fault r) l l′ m = tt
-fine s (T.Broken r) l l′ m = tt
 fine s T.Open l l′ m = tt
 fine s T.Close l l′ m = tt
 fine s T.Semicolon l l′ m = tt

@@ -2,6 +2,7 @@
 use mathlib.Core.Path.{_≡_, refl, sym, ap, _∙_, subst}
 use mathlib.Core.Bool.{Bool, true, false}
 use mathlib.Core.List.{List, [], _∷_, _++_}
+use mathlib.Core.Logic.{inl, inr}
 use Prim.Native.Nat.{ℕ, zero, suc, _+_, _-_, _≤_, _<_}
 use native.Mathlib.Omega.{arith}
 use lib.IntN.{ℤ, pos}
@@ -343,8 +344,8 @@ module _ (s : List ℕ) (l : List Token) (d : Draft) (f : Expr → Expr) (st : L
   unfolding parse within taken
   one-token T.Blank ts m = goes f st q c (ap (λ t. parse t at) m) im
   one-token T.End ts m = stops Unfinished (ap (λ t. parse t at) m) refl
-  one-token (T.Fault r) ts m = stops r (ap (λ t. parse t at) m) refl
-  one-token (T.Broken r) ts m = stops r (ap (λ t. parse t at) m) refl
+  one-token (T.Fault r) ts (inl m) = stops r (ap (λ t. parse t at) m) refl
+  one-token (T.Fault r) ts (inr m) = stops r (ap (λ t. parse t at) m) refl
   one-token T.Open ts m = from ts (opens ∷ l) (opened d) m (opening l d f st q c im)
   one-token T.Close ts m = from ts (closes ∷ l) (closed d) m (closing-any l d f st q c im)
   one-token T.Semicolon ts m =

@@ -1,16 +1,17 @@
 -- The kind of a byte says the class that the definitions give it.
-use mathlib.Core.Path.{_≡_, refl, subst}
+use mathlib.Core.Path.{_≡_, refl, sym, _∙_, subst}
 use mathlib.Core.Bool.{Bool, true, false, cond, _&&_}
+use mathlib.Core.Logic.{_⊎_, inl, inr}
 use Prim.Native.Nat.{ℕ, _+_, _<_}
 use native.Mathlib.Omega.{arith}
 use lib.Dec.{T, leb, eqb, eqb→eq}
-use borrow.Author.Tests.{leb-true}
+use borrow.Author.Tests.{leb-true, ne-eqb}
 use Rattle.language.specs.Syntax.{Operator, operatorByte, Access, accessByte, Condition, conditionByte}
 use Rattle.language.specs.Tokens.{between, Class, blank, quote, opening, closing, semicolon, point, dollar, tick, stray, operating, accessing, comparing, calling, class}
 use Rattle.linker.specs.Lexing.{classRank, byteRank, kindRanked, kindOf}
 use Rattle.linker.specs.declared.lexer.Kind.{Kind}
 use Rattle.linker.specs.declared.lexer.Kind.the-variants as K
-use Rattle.linker.proofs.Bytes.{in-range}
+use Rattle.linker.proofs.Bytes.{either, in-range}
 
 -- the byte of a class that has one of several
 abbrev ownByte : Class → ℕ → Bool
@@ -117,3 +118,84 @@ sorted b h = go (between 49 57 b) (class b) refl refl
     go false dollar e f = f
     go false tick e f = f
     go false stray e f = f
+
+-- what `kind_of` found
+pub sorted-as : (b : ℕ) (r k : Kind) → b < 256 → r ≡ kindOf b → r ≡ k → Sorted k b
+sorted-as b r k h e f = subst (λ k. Sorted k b) (sym e ∙ f) (sorted b h)
+
+-- ── what stands around the outermost expression ─────────────────────────────────────────────────
+
+abbrev pub isMark : Class → Bool
+isMark blank = false
+isMark quote = false
+isMark opening = true
+isMark closing = true
+isMark semicolon = true
+isMark point = true
+isMark (operating o) = true
+isMark (accessing a) = true
+isMark (comparing c) = true
+isMark (calling a) = true
+isMark dollar = true
+isMark tick = true
+isMark stray = true
+
+abbrev isOpening : Class → Bool
+isOpening blank = false
+isOpening quote = false
+isOpening opening = true
+isOpening closing = false
+isOpening semicolon = false
+isOpening point = false
+isOpening (operating o) = false
+isOpening (accessing a) = false
+isOpening (comparing c) = false
+isOpening (calling a) = false
+isOpening dollar = false
+isOpening tick = false
+isOpening stray = false
+
+abbrev pub isOther : Class → Bool
+isOther c = cond (isOpening c) false (isMark c)
+
+else-right : (a x : Bool) → T (either a x) → a ≡ false → T x
+else-right true x t e = absurd (subst (λ (b : Bool). T b) e t)
+else-right false x t e = t
+
+module _ (b : ℕ) (h : b < 256) (n32 : b ≡ 32 → ⊥) (n10 : b ≡ 10 → ⊥) (n34 : b ≡ 34 → ⊥) where
+  pub a-mark : T (isMark (class b))
+  unfolding class
+  a-mark =
+      else-right (eqb b 34) _
+      (else-right (eqb b 10) _
+      (else-right (eqb b 32) _
+      (in-range (λ (b : ℕ). either (eqb b 32) (either (eqb b 10) (either (eqb b 34) (isMark (class b))))) 0 256 tt b (omega arith) (omega arith))
+      (ne-eqb b 32 n32))
+      (ne-eqb b 10 n10))
+      (ne-eqb b 34 n34)
+
+  pub no-opening : (b ≡ 40 → ⊥) → T (isOther (class b))
+  unfolding class
+  no-opening n40 =
+      else-right (eqb b 40) _
+      (else-right (eqb b 34) _
+      (else-right (eqb b 10) _
+      (else-right (eqb b 32) _
+      (in-range (λ (b : ℕ). either (eqb b 32) (either (eqb b 10) (either (eqb b 34) (either (eqb b 40) (isOther (class b)))))) 0 256 tt b (omega arith) (omega arith))
+      (ne-eqb b 32 n32))
+      (ne-eqb b 10 n10))
+      (ne-eqb b 34 n34))
+      (ne-eqb b 40 n40)
+
+pub the-opening : (b : ℕ) → b ≡ 40 → class b ≡ opening
+unfolding class
+the-opening b e = rw e
+
+pub the-quote : (b : ℕ) → b ≡ 34 → class b ≡ quote
+unfolding class
+the-quote b e = rw e
+
+pub the-blank : (b : ℕ) → (b ≡ 10) ⊎ (b ≡ 32) → class b ≡ blank
+unfolding class
+the-blank b (inl e) = rw e
+the-blank b (inr e) = rw e

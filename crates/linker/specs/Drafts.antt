@@ -104,7 +104,6 @@ unfolding fit opened closed counted
 taken s T.Blank d = d
 taken s T.End d = refuse d Unfinished
 taken s (T.Fault r) d = refuse d r
-taken s (T.Broken r) d = refuse d r
 taken s T.Open d = opened d
 taken s T.Close d = closed d
 taken s T.Semicolon d = fit d (semiAt (d .level) ∷ [])
@@ -122,7 +121,6 @@ abbrev pub Fine : List ℕ → Lexer.Token → Type 0
 Fine s T.Blank = Unit {0}
 Fine s T.End = Unit {0}
 Fine s (T.Fault r) = Unit {0}
-Fine s (T.Broken r) = Unit {0}
 Fine s T.Open = Unit {0}
 Fine s T.Close = Unit {0}
 Fine s T.Semicolon = Unit {0}

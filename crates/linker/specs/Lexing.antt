@@ -2,11 +2,12 @@
 use mathlib.Core.Path.{_≡_}
 use mathlib.Core.Bool.{cond}
 use mathlib.Core.List.{List, [], _∷_}
+use mathlib.Core.Logic.{_⊎_}
 use Prim.Native.Nat.{ℕ, suc, _+_, _^_, _≤_, _<_}
-use lib.ListN.{length, take, drop}
+use lib.ListN.{length, getD, take, drop}
 use lib.Dec.{eqb}
 use Rattle.language.specs.declared.Refusal.{Refusal}
-use Rattle.language.specs.declared.Refusal.the-variants.{StrayMark, Unfinished}
+use Rattle.language.specs.declared.Refusal.the-variants.{StrayMark}
 use Rattle.language.specs.Syntax.{Operator, operatorByte, Access, accessByte, Condition, conditionByte, operator, variable, constant, print}
 use Rattle.language.specs.Tokens.{Token, opens, closes, semis, colons, begins, ends, does, asks, counts, calls, faults}
 use Rattle.language.specs.Tokens.{between, Class, blank, quote, opening, closing, semicolon, point, dollar, tick, stray, operating, accessing, comparing, calling, class}
@@ -16,6 +17,8 @@ use Rattle.linker.specs.declared.lexer.Kind.the-variants as K
 use Rattle.linker.specs.declared.lexer.Token as Lexer
 use Rattle.linker.specs.declared.lexer.Token.the-variants as T
 use Rattle.linker.specs.declared.lexer.Lexed.{Lexed}
+use Rattle.linker.specs.declared.lexer.Skipped.{Skipped}
+use Rattle.linker.specs.declared.lexer.Skipped.the-variants as S
 use Rattle.linker.specs.declared.lexer.Number.{Number}
 use Rattle.linker.specs.declared.lexer.Number.the-variants.{Value, Refused}
 
@@ -74,14 +77,38 @@ NumberIs s f from (Value v n) =
     (tokens (drop from s) (number f 0 0) ≡ numeral f v (λ m. tokens (drop n s) m)) × ((v < 10 ^ mostDigits f) × ((from ≤ n) × (n ≤ length s)))
 NumberIs s f from (Refused r) = tokens (drop from s) (number f 0 0) ≡ faults r ∷ []
 
+-- ── what is skipped between marks ───────────────────────────────────────────────────────────────
+
+-- `StrayMark` where there is none
+abbrev pub skipRefusal : Skipped → Refusal
+skipRefusal (S.To n) = StrayMark
+skipRefusal (S.Refused r) = r
+
+-- from place `from` of the text s on, where the tokens are t
+abbrev pub Skips : List Token → List ℕ → ℕ → Skipped → Type 0
+Skips t s from (S.To n) = (t ≡ tokens (drop n s) idle) × ((from ≤ n) × (n ≤ length s))
+Skips t s from (S.Refused r) = t ≡ faults r ∷ []
+
+-- no blank, newline or comment begins at place i
+abbrev pub MarkAt : List ℕ → ℕ → Type 0
+MarkAt s i = i < length s → (getD s i 0 ≡ 32 → ⊥) × ((getD s i 0 ≡ 10 → ⊥) × (getD s i 0 ≡ 34 → ⊥))
+
+-- where nothing is skipped, there is nothing to skip
+abbrev pub Stays : List ℕ → ℕ → Skipped → Type 0
+Stays s at r = r ≡ S.To at → MarkAt s at
+
+-- nothing to skip is left
+abbrev pub Settles : List ℕ → Skipped → Type 0
+Settles s (S.To n) = MarkAt s n
+Settles s (S.Refused r) = Unit {0}
+
 -- ── a token ─────────────────────────────────────────────────────────────────────────────────────
 
 -- The code's token is the first of the tokens t of the text s, with `begins` where a mark inside an expression begins, and l are the others.
 abbrev pub Means : List ℕ → Lexer.Token → List Token → List Token → Type 0
 Means s T.Blank t l = t ≡ l
 Means s T.End t l = t ≡ ends ∷ []
-Means s (T.Fault r) t l = t ≡ faults r ∷ []
-Means s (T.Broken r) t l = t ≡ begins ∷ faults r ∷ []
+Means s (T.Fault r) t l = (t ≡ faults r ∷ []) ⊎ (t ≡ begins ∷ faults r ∷ [])
 Means s T.Open t l = t ≡ opens ∷ l
 Means s T.Close t l = t ≡ closes ∷ l
 Means s T.Semicolon t l = t ≡ semis ∷ l
@@ -105,25 +132,3 @@ pub record Takes (t : List Token) (s : List ℕ) (from : ℕ) (r : Lexed) : Type
   pub means : Means s (r .token) t (tokens (drop (r .next) s) idle)
   pub further : (r .token ≡ T.End → ⊥) → from < r .next
   pub inside : r .next ≤ length s
-
--- neither a blank nor a comment
-abbrev pub NotBlank : Lexer.Token → Type 0
-NotBlank t = t ≡ T.Blank → ⊥
-
--- what a token outside the outermost expression is refused as, the outermost `(` and the end after it aside
-abbrev pub outsideOf : Lexer.Token → Refusal
-outsideOf T.Blank = StrayMark
-outsideOf T.End = Unfinished
-outsideOf (T.Fault r) = r
-outsideOf (T.Broken r) = StrayMark
-outsideOf T.Open = StrayMark
-outsideOf T.Close = StrayMark
-outsideOf T.Semicolon = StrayMark
-outsideOf T.Colon = StrayMark
-outsideOf (T.Operator b) = StrayMark
-outsideOf (T.Variable b k) = StrayMark
-outsideOf (T.Condition b) = StrayMark
-outsideOf (T.Call b) = StrayMark
-outsideOf (T.Counter n) = StrayMark
-outsideOf (T.Constant v) = StrayMark
-outsideOf (T.Print a n) = StrayMark

@@ -6,7 +6,7 @@ ghost use lib.IntN.{pos, negℤ};
 ghost use lib.ListN.{length, drop};
 ghost use Rattle.language.specs.Syntax.{Access, accessByte};
 ghost use Rattle.language.specs.Tokens.{begins, Form, counterForm, constantForm, mostDigits, closingByte, formFault, idle, comment, after-tick, after-access, number, printing, tokens};
-ghost use Rattle.linker.specs.Lexing.{kindOf, refusalOf, NumberIs, Lexes, Takes, NotBlank};
+ghost use Rattle.linker.specs.Lexing.{kindOf, refusalOf, NumberIs, skipRefusal, Skips, Stays, Settles, Lexes, Takes};
 use language::Refusal;
 
 // What a byte is where a token may begin.
@@ -28,13 +28,11 @@ pub enum Kind {
 }
 
 // A token, a mark of document 01. An operator, a variable, a condition and a call have their byte, a variable also its digit (0 as 10), a counter its
-// number, a constant its value, a print the place of its first byte and its length. `Blank` is what is skipped between marks. `Fault` is a refusal where
-// no mark inside an expression has begun, `Broken` one within such a mark.
+// number, a constant its value, a print the place of its first byte and its length. `Blank` is what is skipped between marks.
 pub enum Token {
     Blank,
     End,
     Fault(Refusal),
-    Broken(Refusal),
     Open,
     Close,
     Semicolon,
@@ -52,6 +50,12 @@ pub enum Token {
 pub struct Lexed {
     pub token: Token,
     pub next: usize,
+}
+
+// A place after what is skipped between marks, or the refusal.
+pub enum Skipped {
+    To(usize),
+    Refused(Refusal),
 }
 
 // What the reader of numbers answers: a value and the place after its closing byte, or the refusal.
@@ -140,38 +144,74 @@ fn digits(text: &[u8], from: usize, most: usize, close: u8, fault: Refusal) -> N
 }
 
 // After the `"` that opens a comment.
-fn comment(text: &[u8], from: usize) -> Lexed
+fn comment(text: &[u8], from: usize) -> Skipped
     requires { ⌜ from ≤ length (now text) ⌝ }
-    ensures { λ r. ⌜ Lexes (tokens (drop from (now (text .entry))) comment) (now (text .entry)) from r ⌝ }
+    ensures { λ r. ⌜ Skips (tokens (drop from (now (text .entry))) comment) (now (text .entry)) from r ⌝ }
 {
     let mut i = from;
     while i < text.len() {
         let b = text[i];
         if b == 34 {
-            return Lexed {
-                token: Token::Blank,
-                next: i + 1,
-            };
+            return Skipped::To(i + 1);
         }
         if b < 32 {
             if b != 10 {
-                return Lexed {
-                    token: Token::Fault(Refusal::StrayMark),
-                    next: i,
-                };
+                return Skipped::Refused(Refusal::StrayMark);
             }
         }
         if 126 < b {
-            return Lexed {
-                token: Token::Fault(Refusal::StrayMark),
-                next: i,
-            };
+            return Skipped::Refused(Refusal::StrayMark);
         }
         i += 1;
     }
-    Lexed {
-        token: Token::Fault(Refusal::Unfinished),
-        next: i,
+    Skipped::Refused(Refusal::Unfinished)
+}
+
+// The refusal of what could not be skipped.
+pub fn skip_refusal(s: Skipped) -> Refusal
+    ensures { λ r. ⌜ r ≡ skipRefusal s ⌝ }
+{
+    match s {
+        Skipped::To(_) => Refusal::StrayMark,
+        Skipped::Refused(r) => r,
+    }
+}
+
+// One blank, newline or comment; none where a mark or the end of the text stands.
+fn skip_one(text: &[u8], at: usize) -> Skipped
+    requires { ⌜ at ≤ length (now text) ⌝ }
+    ensures { λ r. ⌜ Skips (tokens (drop at (now (text .entry))) idle) (now (text .entry)) at r × Stays (now (text .entry)) at r ⌝ }
+{
+    if text.len() <= at {
+        return Skipped::To(at);
+    }
+    let b = text[at];
+    if b == 34 {
+        return comment(text, at + 1);
+    }
+    if b != 32 {
+        if b != 10 {
+            return Skipped::To(at);
+        }
+    }
+    Skipped::To(at + 1)
+}
+
+// Blanks, newlines and comments, as many as there are.
+pub fn skip(text: &[u8], from: usize) -> Skipped
+    requires { ⌜ from ≤ length (now text) ⌝ }
+    ensures { λ r. ⌜ Skips (tokens (drop from (now (text .entry))) idle) (now (text .entry)) from r × Settles (now (text .entry)) r ⌝ }
+{
+    let mut at = from;
+    loop {
+        let r = skip_one(text, at);
+        let Skipped::To(next) = r else {
+            return r;
+        };
+        if next == at {
+            return r;
+        }
+        at = next;
     }
 }
 
@@ -182,7 +222,7 @@ fn variable(text: &[u8], at: usize, b: u8) -> Lexed
 {
     if text.len() <= at {
         return Lexed {
-            token: Token::Broken(Refusal::Unfinished),
+            token: Token::Fault(Refusal::Unfinished),
             next: at,
         };
     }
@@ -197,7 +237,7 @@ fn variable(text: &[u8], at: usize, b: u8) -> Lexed
             next: at + 1,
         },
         _ => Lexed {
-            token: Token::Broken(Refusal::StrayMark),
+            token: Token::Fault(Refusal::StrayMark),
             next: at,
         },
     }
@@ -211,13 +251,13 @@ fn counter(text: &[u8], from: usize) -> Lexed
     let n = digits(text, from, 4, b'$', Refusal::BadCounter);
     let Number::Value(value, next) = n else {
         return Lexed {
-            token: Token::Broken(refusal(n)),
+            token: Token::Fault(refusal(n)),
             next: from,
         };
     };
     if value == 0 {
         return Lexed {
-            token: Token::Broken(Refusal::BadCounter),
+            token: Token::Fault(Refusal::BadCounter),
             next: from,
         };
     }
@@ -235,7 +275,7 @@ fn constant(text: &[u8], from: usize, minus: bool) -> Lexed
     let n = digits(text, from, 9, b'\'', Refusal::BadConstant);
     let Number::Value(value, next) = n else {
         return Lexed {
-            token: Token::Broken(refusal(n)),
+            token: Token::Fault(refusal(n)),
             next: from,
         };
     };
@@ -267,20 +307,20 @@ fn print(text: &[u8], from: usize) -> Lexed
         }
         if b < 32 {
             return Lexed {
-                token: Token::Broken(Refusal::StrayMark),
+                token: Token::Fault(Refusal::StrayMark),
                 next: i,
             };
         }
         if 126 < b {
             return Lexed {
-                token: Token::Broken(Refusal::StrayMark),
+                token: Token::Fault(Refusal::StrayMark),
                 next: i,
             };
         }
         i += 1;
     }
     Lexed {
-        token: Token::Broken(Refusal::Unfinished),
+        token: Token::Fault(Refusal::Unfinished),
         next: i,
     }
 }
@@ -292,7 +332,7 @@ fn quoted(text: &[u8], at: usize) -> Lexed
 {
     if text.len() <= at {
         return Lexed {
-            token: Token::Broken(Refusal::Unfinished),
+            token: Token::Fault(Refusal::Unfinished),
             next: at,
         };
     }
@@ -302,14 +342,14 @@ fn quoted(text: &[u8], at: usize) -> Lexed
     }
     if b != 47 {
         return Lexed {
-            token: Token::Broken(Refusal::StrayMark),
+            token: Token::Fault(Refusal::StrayMark),
             next: at,
         };
     }
     let from = at + 1;
     if text.len() <= from {
         return Lexed {
-            token: Token::Broken(Refusal::Unfinished),
+            token: Token::Fault(Refusal::Unfinished),
             next: at,
         };
     }
@@ -338,7 +378,19 @@ fn token_at(text: &[u8], at: usize) -> Lexed
             token: Token::Blank,
             next,
         },
-        Kind::Quote => comment(text, next),
+        Kind::Quote => {
+            let c = comment(text, next);
+            match c {
+                Skipped::To(after) => Lexed {
+                    token: Token::Blank,
+                    next: after,
+                },
+                Skipped::Refused(r) => Lexed {
+                    token: Token::Fault(r),
+                    next,
+                },
+            }
+        }
         Kind::Open => Lexed {
             token: Token::Open,
             next,
@@ -384,7 +436,7 @@ fn token_at(text: &[u8], at: usize) -> Lexed
 // The next token after blanks and comments.
 pub fn next_token(text: &[u8], from: usize) -> Lexed
     requires { ⌜ from ≤ length (now text) ⌝ }
-    ensures { λ r. ⌜ Takes (tokens (drop from (now (text .entry))) idle) (now (text .entry)) from r × NotBlank (r .token) ⌝ }
+    ensures { λ r. ⌜ Takes (tokens (drop from (now (text .entry))) idle) (now (text .entry)) from r ⌝ }
 {
     let mut at = from;
     loop {

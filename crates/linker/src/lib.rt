@@ -3,9 +3,9 @@ ghost use mathlib.Core.Path.{_≡_};
 ghost use Prim.Native.Nat.{_≤_, min};
 ghost use lib.ListN.{length};
 ghost use lib.Seq.{paste};
+ghost use Rattle.language.specs.Answers.{refusalNumber};
 ghost use Rattle.language.specs.Layout.{cleared};
 ghost use Rattle.language.specs.Reading.{read};
-ghost use Rattle.linker.specs.Lexing.{outsideOf};
 ghost use Rattle.linker.specs.Linked.{linked};
 
 mod exits;
@@ -15,8 +15,9 @@ mod pass;
 use exits::fill;
 use language::Refusal;
 use language::Table;
-use lexer::Token;
-use lexer::next_token;
+use lexer::Skipped;
+use lexer::skip;
+use lexer::skip_refusal;
 use pass::scan;
 
 // Document 01's number, 0 where the text is accepted, and its table, which is cleared where it is refused.
@@ -29,23 +30,12 @@ pub struct Linked {
 const TEXT: usize = 256;
 
 // A refusal, with a cleared table.
-fn refused(n: u32) -> Linked
-    ensures { λ r. ⌜ r ≡ record { number = n; table = cleared } ⌝ }
+fn refused(why: Refusal) -> Linked
+    ensures { λ r. ⌜ r ≡ record { number = refusalNumber why; table = cleared } ⌝ }
 {
     Linked {
-        number: n,
+        number: why.number(),
         table: Table::fresh(),
-    }
-}
-
-// What a token outside the outermost expression is refused as.
-fn outside(t: Token) -> Refusal
-    ensures { λ r. ⌜ r ≡ outsideOf t ⌝ }
-{
-    match t {
-        Token::End => Refusal::Unfinished,
-        Token::Fault(r) => r,
-        _ => Refusal::StrayMark,
     }
 }
 
@@ -54,26 +44,36 @@ pub fn link(text: &[u8]) -> Linked
     ensures { λ r. ⌜ r ≡ linked (read (now (text .entry))) ⌝ }
 {
     if TEXT < text.len() {
-        return refused(Refusal::LongText.number());
+        return refused(Refusal::LongText);
     }
-    let first = next_token(text, 0);
-    let t = first.token;
-    let Token::Open = t else {
-        return refused(outside(t).number());
+    let before = skip(text, 0);
+    let Skipped::To(at) = before else {
+        return refused(skip_refusal(before));
     };
+    if text.len() <= at {
+        return refused(Refusal::Unfinished);
+    }
+    if text[at] != b'(' {
+        return refused(Refusal::StrayMark);
+    }
     let mut cells = [0i32; 250];
     let mut kinds = [0u8; 250];
     let mut levels = [0u8; 250];
-    let s = scan(text, first.next, &mut cells, &mut kinds, &mut levels);
+    let s = scan(text, at + 1, &mut cells, &mut kinds, &mut levels);
     let p = s.pass;
     if p.fault != 0 {
-        return refused(p.fault);
+        return Linked {
+            number: p.fault,
+            table: Table::fresh(),
+        };
     }
-    let last = next_token(text, s.next);
-    let e = last.token;
-    let Token::End = e else {
-        return refused(outside(e).number());
+    let after = skip(text, s.next);
+    let Skipped::To(end) = after else {
+        return refused(skip_refusal(after));
     };
+    if end < text.len() {
+        return refused(Refusal::StrayMark);
+    }
     fill(p.used, &mut cells, &kinds, &levels);
     Linked {
         number: 0,

@@ -298,7 +298,6 @@ impl Pass {
             Token::Blank => self,
             Token::End => self.refuse(Refusal::Unfinished),
             Token::Fault(r) => self.refuse(r),
-            Token::Broken(r) => self.refuse(r),
             Token::Open => self.open(starts),
             Token::Close => self.close(cells, kinds, levels),
             Token::Semicolon => self.semicolon(kinds, levels),

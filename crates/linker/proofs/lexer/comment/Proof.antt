@@ -2,10 +2,10 @@
 use Rattle.linker.proofs.Lexing.{tokens-end, comment-end, comment-on, comment-low, comment-high}
 use Rattle.language.specs.Tokens.{tokens, comment, finish}
 use lib.ListN.{length, drop}
-use native.Mathlib.Omega.{arith}
 use Prim.Native.Nat.{_-_, _≤_}
 use mathlib.Core.Logic.{inl, inr, ⊎-elim}
 use mathlib.Core.Path.{_≡_, refl, sym, _∙_}
+use native.Mathlib.Omega.{arith}
 use Rattle.linker.proofs.lexer.comment.Statement.{statement}
 use Rattle.linker.proofs.lexer.comment.Tie as tie
 
@@ -21,17 +21,17 @@ loop-holds c = (omega arith, (omega arith, refl))
 shared-slice-read-b : tie.Need-shared-slice-read-b Inv-loop μ-loop
 shared-slice-read-b c = omega arith
 
-add-t10 : tie.Need-add-t10 Inv-loop μ-loop
-add-t10 c = omega arith
+add-t9 : tie.Need-add-t9 Inv-loop μ-loop
+add-t9 c = omega arith
 
 returns : tie.Need-returns Inv-loop μ-loop
-returns c = record { means = sym (c .before .before .before .loop .inv .1 .1) ∙ comment-end (c .before .before .before .before .args .text .now) (c .before .before .before .loop .i) (omega arith) (c .if1 .taken); after = omega arith; inside = omega arith }
+returns c = (sym (c .before .before .before .loop .inv .1 .1) ∙ comment-end (c .before .before .before .before .args .text .now) (c .before .before .before .loop .i) (omega arith) (c .if1 .taken), (omega arith, omega arith))
 
 returns-2 : tie.Need-returns-2 Inv-loop μ-loop
-returns-2 c = record { means = sym (c .before .before .before .before .before .loop .inv .1 .1) ∙ comment-low (c .before .before .before .before .before .before .args .text .now) (c .before .before .before .before .before .loop .i) (omega arith) (c .before .if2 .taken) (c .if3 .taken); after = omega arith; inside = omega arith }
+returns-2 c = sym (c .before .before .before .before .before .loop .inv .1 .1) ∙ comment-low (c .before .before .before .before .before .before .args .text .now) (c .before .before .before .before .before .loop .i) (omega arith) (c .before .if2 .taken) (c .if3 .taken)
 
 returns-3 : tie.Need-returns-3 Inv-loop μ-loop
-returns-3 c = record { means = sym (c .before .before .before .before .before .loop .inv .1 .1) ∙ comment-high (c .before .before .before .before .before .before .args .text .now) (c .before .before .before .before .before .loop .i) (omega arith) (c .if4 .taken); after = omega arith; inside = omega arith }
+returns-3 c = sym (c .before .before .before .before .before .loop .inv .1 .1) ∙ comment-high (c .before .before .before .before .before .before .args .text .now) (c .before .before .before .before .before .loop .i) (omega arith) (c .if4 .taken)
 
 add-i : tie.Need-add-i Inv-loop μ-loop
 add-i c = omega arith
@@ -50,7 +50,7 @@ loop-again c = (
 
 returns-4 : tie.Need-returns-4 Inv-loop μ-loop
 unfolding finish
-returns-4 c = record { means = sym (c .before .loop .inv .1 .1) ∙ tokens-end (c .before .before .args .text .now) (c .before .loop .i) comment (omega arith); after = omega arith; inside = omega arith }
+returns-4 c = sym (c .before .loop .inv .1 .1) ∙ tokens-end (c .before .before .args .text .now) (c .before .loop .i) comment (omega arith)
 
 pub comment-spec : {M : Type 1} → statement M
 comment-spec =
@@ -60,7 +60,7 @@ comment-spec =
     μ-loop
     loop-holds
     shared-slice-read-b
-    add-t10
+    add-t9
     returns
     returns-2
     returns-3

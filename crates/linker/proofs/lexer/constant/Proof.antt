@@ -8,6 +8,7 @@ use mir.Syntax.{w32}
 use lib.ListN.{drop}
 use native.Mathlib.Omega.{arith}
 use mathlib.Core.List.{_∷_, []}
+use mathlib.Core.Logic.{inr}
 use mathlib.Core.Path.{_≡_, refl, sym, ap, _∙_, subst}
 use borrow.Author.Needs.{needs}
 use Rattle.linker.proofs.lexer.constant.Statement.{statement}
@@ -31,7 +32,7 @@ returns c =
     let e = c .before .enum-told .given .1 in
     let k = c .refusal .ensures ∙ ap refusalOf e in
     let f = subst (NumberIs (s .text .now) (constantForm (s .minus)) (s .from)) e (c .before .before .before .digits .ensures (constantForm (s .minus)) refl refl refl) in
-    record { means = ap (λ t. begins ∷ t) (f ∙ ap (λ r. faults r ∷ []) (sym k)); after = omega arith; inside = omega arith }
+    record { means = inr (ap (λ t. begins ∷ t) (f ∙ ap (λ r. faults r ∷ []) (sym k))); after = omega arith; inside = omega arith }
 
 negative-requires : tie.Need-negative-requires
 negative-requires c κs =

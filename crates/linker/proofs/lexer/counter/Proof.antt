@@ -5,6 +5,7 @@ use Rattle.language.specs.Tokens.{begins, faults, counterForm, tokens}
 use lib.ListN.{drop}
 use native.Mathlib.Omega.{arith}
 use mathlib.Core.List.{_∷_, []}
+use mathlib.Core.Logic.{inr}
 use mathlib.Core.Path.{refl, sym, ap, _∙_, subst}
 use borrow.Author.Needs.{needs}
 use Rattle.linker.proofs.lexer.counter.Statement.{statement}
@@ -28,13 +29,13 @@ returns c =
     let e = c .before .enum-told .given .1 in
     let k = c .refusal .ensures ∙ ap refusalOf e in
     let f = subst (NumberIs (s .text .now) counterForm (s .from)) e (c .before .before .before .digits .ensures counterForm refl refl refl) in
-    record { means = ap (λ t. begins ∷ t) (f ∙ ap (λ r. faults r ∷ []) (sym k)); after = omega arith; inside = omega arith }
+    record { means = inr (ap (λ t. begins ∷ t) (f ∙ ap (λ r. faults r ∷ []) (sym k))); after = omega arith; inside = omega arith }
 
 returns-2 : tie.Need-returns-2
 returns-2 c =
     let s = c .before .before .before .before .before .before .args in
     let f = subst (NumberIs (s .text .now) counterForm (s .from)) (c .before .before .n .given .1) (c .before .before .before .before .digits .ensures counterForm refl refl refl) in
-    record { means = ap (λ t. begins ∷ t) (f .0 ∙ counter-zero _ _ (c .if1 .taken)); after = omega arith; inside = omega arith }
+    record { means = inr (ap (λ t. begins ∷ t) (f .0 ∙ counter-zero _ _ (c .if1 .taken))); after = omega arith; inside = omega arith }
 
 returns-3 : tie.Need-returns-3
 returns-3 c =

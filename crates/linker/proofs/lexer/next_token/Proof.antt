@@ -1,5 +1,4 @@
 -- `next_token` meets its contract: the tokens from a place after blanks and comments are those from the start.
-use Rattle.linker.proofs.Tags.{not-blank}
 use Rattle.linker.proofs.Lexing.{takes-after}
 use Rattle.linker.specs.Lexing.{Means}
 use Rattle.language.specs.Tokens.{tokens, idle}
@@ -27,22 +26,20 @@ enum-told : tie.Need-enum-told Inv-loop μ-loop
 enum-told c = search needs
 
 returns : tie.Need-returns Inv-loop μ-loop
-returns c = (
-  takes-after _ _ (c .before .before .before .before .args .text .now) (c .before .before .before .before .args .from) (c .before .before .loop .at) (c .before .token-at .result) (sym (c .before .before .loop .inv .1 .1)) (omega arith) (c .before .token-at .ensures),
-  not-blank _ (c .match .keys2),
-)
+returns c =
+    takes-after _ _ (c .before .before .before .before .args .text .now) (c .before .before .before .before .args .from) (c .before .before .loop .at) (c .before .token-at .result) (sym (c .before .before .loop .inv .1 .1)) (omega arith) (c .before .token-at .ensures)
 
 loop-less : tie.Need-loop-less Inv-loop μ-loop
 loop-less c =
     let r = c .before .before .token-at in
-    let f = r .ensures .further (λ e. let z : _≡_ {A = ℕ} 0 1 = cc (e, c .enum-told .given .1) in omega arith) in
+    let f = r .ensures .further (λ e. let z : _≡_ {A = ℕ} 0 1 = cc in omega arith) in
     omega (arith, r .ensures .inside)
 
 loop-again : tie.Need-loop-again Inv-loop μ-loop
 loop-again c =
     let s = c .before .before .before .before .before .args .text .now in
     let r = c .before .before .token-at in
-    let f = r .ensures .further (λ e. let z : _≡_ {A = ℕ} 0 1 = cc (e, c .enum-told .given .1) in omega arith) in
+    let f = r .ensures .further (λ e. let z : _≡_ {A = ℕ} 0 1 = cc in omega arith) in
     let t = subst (λ t. Means s t (tokens (drop (c .before .before .before .loop .at) s) idle) (tokens (drop (r .result .next) s) idle)) (c .enum-told .given .1) (r .ensures .means) in
     (omega arith, (r .ensures .inside, sym t ∙ c .before .before .before .loop .inv .1 .1))
 

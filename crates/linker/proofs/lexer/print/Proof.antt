@@ -6,6 +6,7 @@ use lib.ListN.{length, drop, take}
 use native.Mathlib.Omega.{arith}
 use Prim.Native.Nat.{_+_, _-_, _≤_}
 use mathlib.Core.List.{[], _∷_, reverse, reverse-reverse}
+use mathlib.Core.Logic.{inr}
 use mathlib.Core.Path.{_≡_, sym, ap, _∙_}
 use Rattle.linker.proofs.lexer.print.Statement.{statement}
 use Rattle.linker.proofs.lexer.print.Tie as tie
@@ -51,10 +52,10 @@ returns c =
     }
 
 returns-2 : tie.Need-returns-2 Inv-loop μ-loop
-returns-2 c = record { means = ap (λ k. begins ∷ k) (sym (c .before .before .before .before .loop .inv .1 .1) ∙ print-low (c .before .before .before .before .before .args .text .now) (c .before .before .before .before .loop .i) (omega arith) _ (c .if2 .taken)); after = omega arith; inside = omega arith }
+returns-2 c = record { means = inr (ap (λ k. begins ∷ k) (sym (c .before .before .before .before .loop .inv .1 .1) ∙ print-low (c .before .before .before .before .before .args .text .now) (c .before .before .before .before .loop .i) (omega arith) _ (c .if2 .taken))); after = omega arith; inside = omega arith }
 
 returns-3 : tie.Need-returns-3 Inv-loop μ-loop
-returns-3 c = record { means = ap (λ k. begins ∷ k) (sym (c .before .before .before .before .before .loop .inv .1 .1) ∙ print-high (c .before .before .before .before .before .before .args .text .now) (c .before .before .before .before .before .loop .i) (omega arith) _ (c .if3 .taken)); after = omega arith; inside = omega arith }
+returns-3 c = record { means = inr (ap (λ k. begins ∷ k) (sym (c .before .before .before .before .before .loop .inv .1 .1) ∙ print-high (c .before .before .before .before .before .before .args .text .now) (c .before .before .before .before .before .loop .i) (omega arith) _ (c .if3 .taken))); after = omega arith; inside = omega arith }
 
 add-i : tie.Need-add-i Inv-loop μ-loop
 add-i c = omega arith
@@ -78,7 +79,7 @@ loop-again c =
 
 returns-4 : tie.Need-returns-4 Inv-loop μ-loop
 unfolding finish
-returns-4 c = record { means = ap (λ k. begins ∷ k) (sym (c .before .loop .inv .1 .1) ∙ tokens-end (c .before .before .args .text .now) (c .before .loop .i) _ (omega arith)); after = omega arith; inside = omega arith }
+returns-4 c = record { means = inr (ap (λ k. begins ∷ k) (sym (c .before .loop .inv .1 .1) ∙ tokens-end (c .before .before .args .text .now) (c .before .loop .i) _ (omega arith))); after = omega arith; inside = omega arith }
 
 pub print-spec : {M : Type 1} → statement M
 print-spec =

@@ -4,6 +4,7 @@ use Rattle.language.specs.Tokens.{begins, finish, after-tick, after-slash}
 use Prim.Native.Nat.{_+_}
 use native.Mathlib.Omega.{arith}
 use mathlib.Core.List.{_∷_}
+use mathlib.Core.Logic.{inr}
 use mathlib.Core.Path.{ap, _∙_}
 use borrow.Author.Needs.{needs}
 use Rattle.linker.proofs.lexer.quoted.Statement.{statement}
@@ -11,7 +12,7 @@ use Rattle.linker.proofs.lexer.quoted.Tie as tie
 
 returns : tie.Need-returns
 unfolding finish
-returns c = record { means = ap (λ t. begins ∷ t) (tokens-end (c .before .before .args .text .now) (c .before .before .args .at) after-tick (c .if1 .taken)); after = omega arith; inside = omega arith }
+returns c = record { means = inr (ap (λ t. begins ∷ t) (tokens-end (c .before .before .args .text .now) (c .before .before .args .at) after-tick (c .if1 .taken))); after = omega arith; inside = omega arith }
 
 shared-slice-read-b : tie.Need-shared-slice-read-b
 shared-slice-read-b c = search needs
@@ -31,7 +32,7 @@ returns-2 c =
 returns-3 : tie.Need-returns-3
 returns-3 c =
     let s = c .before .before .before .before .before .args in
-    record { means = ap (λ t. begins ∷ t) (tick-bad (s .text .now) (s .at) (c .before .before .before .if1 .left) (c .before .if2 .left) (c .if3 .taken)); after = omega arith; inside = omega arith }
+    record { means = inr (ap (λ t. begins ∷ t) (tick-bad (s .text .now) (s .at) (c .before .before .before .if1 .left) (c .before .if2 .left) (c .if3 .taken))); after = omega arith; inside = omega arith }
 
 add-from : tie.Need-add-from
 add-from c = search needs
@@ -41,7 +42,7 @@ unfolding finish
 returns-4 c =
     let s = c .before .before .before .before .before .before .args in
     record {
-      means = ap (λ t. begins ∷ t) (tick-slash (s .text .now) (s .at) (c .before .before .before .before .if1 .left) (c .before .if3 .left) ∙ tokens-end (s .text .now) (s .at + 1) after-slash (c .if4 .taken));
+      means = inr (ap (λ t. begins ∷ t) (tick-slash (s .text .now) (s .at) (c .before .before .before .before .if1 .left) (c .before .if3 .left) ∙ tokens-end (s .text .now) (s .at + 1) after-slash (c .if4 .taken)));
       after = omega arith;
       inside = omega arith;
     }

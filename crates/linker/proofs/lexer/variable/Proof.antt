@@ -4,6 +4,7 @@ use Rattle.language.specs.Tokens.{begins, after-access, finish}
 use lib.ListN.{getD}
 use native.Mathlib.Omega.{arith}
 use mathlib.Core.List.{_∷_}
+use mathlib.Core.Logic.{inr}
 use mathlib.Core.Path.{ap}
 use borrow.Author.Needs.{needs}
 use Rattle.linker.proofs.lexer.variable.Statement.{statement}
@@ -11,7 +12,7 @@ use Rattle.linker.proofs.lexer.variable.Tie as tie
 
 returns : tie.Need-returns
 unfolding finish
-returns c = λ a e. record { means = ap (λ k. begins ∷ k) (tokens-end (c .before .args .text .now) (c .before .args .at) (after-access a) (c .if1 .taken)); after = omega arith; inside = omega arith }
+returns c = λ a e. record { means = inr (ap (λ k. begins ∷ k) (tokens-end (c .before .args .text .now) (c .before .args .at) (after-access a) (c .if1 .taken))); after = omega arith; inside = omega arith }
 
 shared-slice-read-d : tie.Need-shared-slice-read-d
 shared-slice-read-d c = search needs
@@ -31,12 +32,12 @@ returns-3 c = λ a e. record { means = (a, e, ap (λ k. begins ∷ k) (access-di
 returns-4 : tie.Need-returns-4
 returns-4 c =
     let b = getD (c .before .before .before .before .args .text .now) (c .before .before .before .before .args .at) 0 in
-    λ a e. record { means = ap (λ k. begins ∷ k) (access-bad (c .before .before .before .before .args .text .now) (c .before .before .before .before .args .at) (c .before .before .before .if1 .left) a (between-low 48 57 b (omega (arith, c .before .match .rest .1)))); after = omega arith; inside = omega arith }
+    λ a e. record { means = inr (ap (λ k. begins ∷ k) (access-bad (c .before .before .before .before .args .text .now) (c .before .before .before .before .args .at) (c .before .before .before .if1 .left) a (between-low 48 57 b (omega (arith, c .before .match .rest .1))))); after = omega arith; inside = omega arith }
 
 returns-5 : tie.Need-returns-5
 returns-5 c =
     let b = getD (c .before .before .before .before .before .args .text .now) (c .before .before .before .before .before .args .at) 0 in
-    λ a e. record { means = ap (λ k. begins ∷ k) (access-bad (c .before .before .before .before .before .args .text .now) (c .before .before .before .before .before .args .at) (c .before .before .before .before .if1 .left) a (between-high 48 57 b (omega arith))); after = omega arith; inside = omega arith }
+    λ a e. record { means = inr (ap (λ k. begins ∷ k) (access-bad (c .before .before .before .before .before .args .text .now) (c .before .before .before .before .before .args .at) (c .before .before .before .before .if1 .left) a (between-high 48 57 b (omega arith)))); after = omega arith; inside = omega arith }
 
 pub variable-spec : {M : Type 1} → statement M
 variable-spec =

@@ -54,7 +54,7 @@ take-requires c κs =
     let s = c .before .before .before .before .before .before .before .before .before .before .args in
     let l = c .before .before .before .before .before .before .before .loop in
     let b = bounds _ _ (draft (l .p) (l .cells) (l .kinds) (l .levels) (l .starts)) (l .inv .1 .1) (l .inv .1 .0) (c .before .before .before .before .before .if1 .taken) in
-    ((b .0, b .1), (c .before .before .before .before .before .before .before .before .before .before .pre .0 .1, fine (s .text .now) (c .before .before .before .before .next-token .result .token) _ _ (c .before .before .before .before .next-token .ensures .0 .means)))
+    ((b .0, b .1), (c .before .before .before .before .before .before .before .before .before .before .pre .0 .1, fine (s .text .now) (c .before .before .before .before .next-token .result .token) _ _ (c .before .before .before .before .next-token .ensures .means)))
 
 returns : tie.Need-returns Inv-loop μ-loop
 returns c =
@@ -62,7 +62,7 @@ returns c =
     let l = c .before .before .before .before .before .before .before .before .before .before .loop in
     let d = draft (l .p) (l .cells) (l .kinds) (l .levels) (l .starts) in
     let n = c .before .before .before .before .before .before .before .next-token in
-    let o = next-outcome (s .text .now) _ _ (n .result .token) _ d (l .inv .1 .1) (l .inv .1 .0) (c .before .before .before .before .before .before .before .before .if1 .taken) (n .ensures .0 .means) in
+    let o = next-outcome (s .text .now) _ _ (n .result .token) _ d (l .inv .1 .1) (l .inv .1 .0) (c .before .before .before .before .before .before .before .before .if1 .taken) (n .ensures .means) in
     scans-refused (s .text .now) (s .from) (n .result .next) _ _ _ _ _ (subst (λ d. Outcome (parsedFrom (s .text .now) (s .from)) (tokens (drop (n .result .next) (s .text .now)) idle) d) (sym (c .before .before .take .ensures)) o) (c .if2 .taken)
 
 loop-less : tie.Need-loop-less Inv-loop μ-loop
@@ -70,9 +70,9 @@ loop-less c =
     let s = c .before .before .before .before .before .before .before .before .before .before .before .before .before .args in
     let l = c .before .before .before .before .before .before .before .before .before .before .loop in
     let n = c .before .before .before .before .before .before .before .next-token in
-    let f = n .ensures .0 .further
+    let f = n .ensures .further
     (not-end (s .text .now) (n .result .token) (draft (l .p) (l .cells) (l .kinds) (l .levels) (l .starts)) (sym (ap (λ d. d .fault) (c .before .before .take .ensures)) ∙ c .if2 .left)) in
-    omega (arith, n .ensures .0 .inside)
+    omega (arith, n .ensures .inside)
 
 loop-again : tie.Need-loop-again Inv-loop μ-loop
 loop-again c =
@@ -80,8 +80,8 @@ loop-again c =
     let l = c .before .before .before .before .before .before .before .before .before .before .loop in
     let d = draft (l .p) (l .cells) (l .kinds) (l .levels) (l .starts) in
     let n = c .before .before .before .before .before .before .before .next-token in
-    let o = next-outcome (s .text .now) _ _ (n .result .token) _ d (l .inv .1 .1) (l .inv .1 .0) (c .before .before .before .before .before .before .before .before .if1 .taken) (n .ensures .0 .means) in (
-      n .ensures .0 .inside,
+    let o = next-outcome (s .text .now) _ _ (n .result .token) _ d (l .inv .1 .1) (l .inv .1 .0) (c .before .before .before .before .before .before .before .before .if1 .taken) (n .ensures .means) in (
+      n .ensures .inside,
       (
         c .if2 .left,
         subst (λ d. Outcome (parsedFrom (s .text .now) (s .from)) (tokens (drop (n .result .next) (s .text .now)) idle) d) (sym (c .before .before .take .ensures)) o,
