@@ -1,0 +1,5 @@
+pub mod Lines
+pub mod Figures
+pub mod Desk
+pub mod Commands
+pub mod Example
