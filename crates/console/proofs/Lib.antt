@@ -1,6 +1,2 @@
-pub mod Columns
-pub mod Writing
-pub mod Scanning
-pub mod Forms
-pub mod Replies
 pub mod Example
+pub mod Desk

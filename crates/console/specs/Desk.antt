@@ -1,21 +1,53 @@
 -- The desk: what a line does to the store, and what it prints.
 use Prim.Native.Nat.{ℕ, suc}
+use mathlib.Core.Bool.{cond}
 use mathlib.Core.List.{List, [], _∷_, _++_}
 use lib.IntN.{pos}
-use lib.ListN.{replicate}
+use lib.ListN.{length, take, replicate}
+use lib.Dec.{leb}
 use Rattle.language.specs.declared.Refusal.the-variants.{BadLine}
 use Rattle.language.specs.Answers.{refusalNumber}
-use Rattle.language.specs.Store.{Store, storeDefine, storeWithdraw, storeRun}
-use Rattle.console.specs.Lines.{Request, define, withdraw, run, bad, request}
-use Rattle.console.specs.Figures.{told, shown}
+use Rattle.language.specs.Limits.{maxHeight}
+use Rattle.numerals.specs.Numerals.{written}
+use Rattle.book.specs.Calls.{defines, withdraws, running}
+use Rattle.book.specs.Replies.{Reply}
+use Rattle.book.specs.Store.{Store, storeCall}
+use Rattle.lines.specs.Lines.{Request, define, withdraw, run, bad, request}
+use Rattle.figures.specs.declared.Figures.{Figures}
+use Rattle.figures.specs.Printed.{figures, told, paper, top}
+
+-- "a run's output (4,096 bytes lent)"
+abbrev pub outputBytes : ℕ
+outputBytes = 4096
+
+-- room for what a line can print: its figures, a run's output and a newline
+abbrev pub paperBytes : ℕ
+paperBytes = 4200
+
+-- the figures of a run's reply in line k
+abbrev pub ranFigures : ℕ → Reply → Figures
+ranFigures k r =
+    record {
+      line = k;
+      answer = r .report .number;
+      truth = r .report .truth;
+      steps = r .report .steps;
+      height = r .report .height;
+      top = top (r .list) (r .report .height);
+    }
+
+-- what a run prints: its figures, and its output, if any
+unfoldable pub shown : ℕ → Reply → List ℕ
+unfolding figures paper top
+shown k r = figures (ranFigures k r) ++ paper (take (r .report .written) (r .output))
 
 -- The store after the request of line k, and the bytes printed. A run is lent 64 list places and "4,096 bytes".
 unfoldable pub granted : Store → ℕ → Request → Store × List ℕ
-unfolding told shown
-granted st k (define l t) = let x = storeDefine st l t in (x .0, told k (x .1))
-granted st k (withdraw l) = let x = storeWithdraw st l in (x .0, told k (x .1))
-granted st k (run l n i) = let x = storeRun st l n i (replicate 64 (pos 0)) (replicate 4096 0) in (x .0, shown k (x .1))
-granted st k bad = (st, told k (refusalNumber BadLine))
+unfolding figures shown
+granted st k (define l t) = let x = storeCall st (defines l t) in (x .0, figures (told k (x .1 .report .number)))
+granted st k (withdraw l) = let x = storeCall st (withdraws l) in (x .0, figures (told k (x .1 .report .number)))
+granted st k (run l n i) = let x = storeCall st (running l n i (replicate maxHeight (pos 0)) (replicate outputBytes 0)) in (x .0, shown k (x .1))
+granted st k bad = (st, figures (told k (refusalNumber BadLine)))
 
 -- a line without its newline
 unfoldable pub deskLine : Store → ℕ → List ℕ → Store × List ℕ
@@ -27,3 +59,13 @@ unfoldable pub session : Store → ℕ → List (List ℕ) → List ℕ
 unfolding deskLine
 session st k [] = []
 session st k (s ∷ l) = let x = deskLine st k s in x .1 ++ session (x .0) (suc k) l
+
+-- ── over a buffer ───────────────────────────────────────────────────────────────────────────────
+
+-- the store, and the bytes printed at the start of the buffer o: how many, and the buffer with them
+abbrev pub printed : List ℕ → Store × List ℕ → Store × (ℕ × List ℕ)
+printed o x = (x .0, written o 0 (x .1))
+
+-- line k over the buffer o; nothing is done where it has no room for any line
+unfoldable pub performed : Store → ℕ → List ℕ → List ℕ → Store × (ℕ × List ℕ)
+performed st k s o = cond (leb paperBytes (length o)) (printed o (deskLine st k s)) (st, (0, o))

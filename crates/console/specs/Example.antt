@@ -2,7 +2,7 @@
 use mathlib.Core.Path.{_≡_}
 use Prim.Native.Nat.{ℕ}
 use mathlib.Core.List.{List, [], _∷_, _++_}
-use Rattle.language.specs.Store.{freshStore}
+use Rattle.book.specs.Store.{freshStore}
 use Rattle.console.specs.Desk.{session}
 
 -- `D q ('/5'N)`, `R q 9`, `X q`, `R q 9`
@@ -14,6 +14,7 @@ fourLines =
     ∷ (82 ∷ 32 ∷ 113 ∷ 32 ∷ 57 ∷ [])
     ∷ []
 
+-- the figures of each line in their columns, and a newline
 abbrev pub printed : List ℕ
 printed =
     (32 ∷ 32 ∷ 32 ∷ 49 ∷ 32 ∷ 32 ∷ 32 ∷ 48 ∷ 32 ∷ 32 ∷ 48 ∷ 32 ∷ 32 ∷ 32 ∷ 32 ∷ 32 ∷ 32 ∷ 32 ∷ 32 ∷ 32 ∷ 48 ∷ 32 ∷ 32 ∷ 32 ∷ 48 ∷ 32 ∷ 32 ∷ 32 ∷ 32 ∷ 32 ∷ 32 ∷ 32 ∷ 32 ∷ 32 ∷ 32 ∷ 48 ∷ 10 ∷ [])

@@ -1,5 +1,2 @@
-pub mod Lines
-pub mod Figures
 pub mod Desk
-pub mod Commands
 pub mod Example

@@ -1,117 +1,131 @@
-// Desk lines as a proved library: what one line does to the store, and what it prints.
-mod figures;
-mod lines;
-
-use engine::Store;
-use language::Refusal;
-use lines::Command;
+// One desk line over a store whose arrays the caller lends: the call it asks for, done, and the bytes that it prints.
 ghost use mathlib.Core.Path.{_≡_};
 ghost use Prim.Native.Nat.{_≤_};
-ghost use lib.ListN.{length, take};
-ghost use Rattle.engine.specs.Stored.{stored};
-ghost use Rattle.console.specs.Lines.{define, withdraw, run};
-ghost use Rattle.console.specs.Figures.{told, paper, top};
-ghost use Rattle.console.specs.Desk.{granted, deskLine};
-ghost use Rattle.console.specs.Commands.{Writes, performed, laidOut};
+ghost use lib.ListN.{length};
+ghost use Rattle.numerals.specs.Numerals.{written};
+ghost use Rattle.figures.specs.Printed.{figures, told};
+ghost use Rattle.book.specs.Store.{storeOf};
+ghost use Rattle.lines.specs.Lines.{run};
+ghost use Rattle.console.specs.Desk.{paperBytes, granted, printed, performed};
+use engine::lent;
+use figures::Figures;
+use figures::top;
+use figures::write_figures;
+use figures::write_output;
+use language::HEIGHT;
+use language::LETTERS;
+use language::Refusal;
+use language::STORE_CELLS;
+use language::VARIABLES;
+use lines::Command;
+use lines::FIELD_START;
+use lines::INPUTS;
+use lines::parse;
 
-// The store after a line, and the bytes that it prints: the first `length`, with zeros after them.
-pub struct Performed {
-    pub store: Store,
-    pub length: usize,
-    pub bytes: [u8; 4200],
-}
+// "a run's output (4,096 bytes lent)"
+const OUTPUT: usize = 4096;
 
-// A line with an answer and zeros.
-fn told(store: Store, line: u32, answer: u32) -> Performed
-    ensures { λ r. ⌜ performed r ≡ laidOut (stored store, told line answer) ⌝ }
+// Room for what a line can print: its figures, a run's output and a newline.
+pub const PAPER: usize = 4200;
+
+// "zeros for `D` and `X` and for refusals"
+fn tell(paper: &mut [u8], line: u32, answer: u32) -> usize
+    ensures { λ r. ⌜ (r, now (paper .exit)) ≡ written (now (paper .entry)) 0 (figures (told line answer)) ⌝ }
 {
-    let mut bytes = [0u8; 4200];
-    let length = figures::figures(&mut bytes, line, answer, false, 0, 0, 0);
-    Performed {
-        store,
-        length,
-        bytes,
-    }
-}
-
-// `D` letter text.
-fn define(store: Store, line: u32, letter: u8, text: &[u8]) -> Performed
-    ensures { λ r. ⌜ performed r ≡ laidOut (granted (stored store) line (define letter (now (text .entry)))) ⌝ }
-{
-    let t = store.define(letter, text);
-    let s = t.store;
-    told(s, line, t.number)
-}
-
-// `X` letter.
-fn withdraw(store: Store, line: u32, letter: u8) -> Performed
-    ensures { λ r. ⌜ performed r ≡ laidOut (granted (stored store) line (withdraw letter)) ⌝ }
-{
-    let t = store.withdraw(letter);
-    let s = t.store;
-    told(s, line, t.number)
-}
-
-// "a run's output (4,096 bytes lent), if any, follows with a newline after it"
-fn print(bytes: &mut [u8], at: usize, output: &[u8], written: usize) -> usize
-    requires { ⌜ (length (now bytes) ≡ 4200) × ((at ≤ 73) × ((written ≤ 4096) × (length (now output) ≡ 4096))) ⌝ }
-    ensures { λ r. ⌜ Writes at (now (bytes .entry)) (paper (take written (now (output .entry)))) r (now (bytes .exit)) ⌝ }
-{
-    if written == 0 {
-        return at;
-    }
-    let end = figures::append(bytes, at, &output[..written]);
-    figures::append(bytes, end, b"\n")
-}
-
-// "top (0 if none)"
-fn top(list: &[i32], height: usize) -> i32
-    requires { ⌜ (height ≤ 64) × (length (now list) ≡ 64) ⌝ }
-    ensures { λ r. ⌜ r ≡ top (now (list .entry)) height ⌝ }
-{
-    if height == 0 {
-        return 0;
-    }
-    list[height - 1]
+    let f = Figures {
+        line,
+        answer,
+        truth: false,
+        steps: 0,
+        height: 0,
+        top: 0,
+    };
+    write_figures(paper, 0, f)
 }
 
 // `R` letter allowance inputs.
-fn run(store: Store, line: u32, letter: u8, allowance: u32, inputs: &[i32]) -> Performed
-    ensures { λ r. ⌜ performed r ≡ laidOut (granted (stored store) line (run letter allowance (now (inputs .entry)))) ⌝ }
+fn execute(
+    cells: &[i32; STORE_CELLS],
+    used: [usize; LETTERS],
+    vars: &mut [i32; VARIABLES],
+    line: u32,
+    letter: u8,
+    allowance: u32,
+    inputs: &[i32],
+    paper: &mut [u8],
+) -> usize
+    requires { ⌜ paperBytes ≤ length (now paper) ⌝ }
+    ensures { λ r. ⌜ (storeOf (now (cells .entry)) used (now (vars .exit)), (r, now (paper .exit)))
+        ≡ printed (now (paper .entry)) (granted (storeOf (now (cells .entry)) used (now (vars .entry))) line (run letter allowance (now (inputs .entry)))) ⌝ }
 {
-    let mut list = [0i32; 64];
-    let mut output = [0u8; 4096];
-    let a = store.run(letter, allowance, inputs, &mut list, &mut output);
-    let s = a.store;
-    let height = a.height;
-    let written = a.written;
-    let mut bytes = [0u8; 4200];
-    let top = top(&list, height);
-    let end = figures::figures(&mut bytes, line, a.number, a.truth, a.steps, height, top);
-    let length = print(&mut bytes, end, &output, written);
-    Performed {
-        store: s,
-        length,
-        bytes,
-    }
+    let mut list = [0i32; HEIGHT];
+    let mut output = [0u8; OUTPUT];
+    let report = runner::run(
+        cells,
+        used,
+        vars,
+        letter,
+        allowance,
+        inputs,
+        &mut list,
+        &mut output,
+    );
+    let height = report.height;
+    let count = report.written;
+    let f = Figures {
+        line,
+        answer: report.number,
+        truth: report.truth,
+        steps: report.steps,
+        height: height as u32,
+        top: top(&list, height),
+    };
+    let end = write_figures(paper, 0, f);
+    write_output(paper, end, &output[..count])
 }
 
-// One desk line, without its newline: the store after it and what it prints.
-pub fn perform(store: Store, number: u32, line: &[u8]) -> Performed
-    ensures { λ r. ⌜ performed r ≡ laidOut (deskLine (stored store) number (now (line .entry))) ⌝ }
+// One desk line, without its newline: what it prints stands at the start of the paper, and the answer is how many bytes that is. A paper without room
+// for any line has nothing done and nothing printed.
+pub fn perform(
+    cells: &mut [i32; STORE_CELLS],
+    used: &mut [usize; LETTERS],
+    vars: &mut [i32; VARIABLES],
+    number: u32,
+    line: &[u8],
+    paper: &mut [u8],
+) -> usize
+    ensures { λ r. ⌜ (storeOf (now (cells .exit)) (now (used .exit)) (now (vars .exit)), (r, now (paper .exit)))
+        ≡ performed (storeOf (now (cells .entry)) (now (used .entry)) (now (vars .entry))) number (now (line .entry)) (now (paper .entry)) ⌝ }
 {
-    let mut inputs = [0i32; 64];
-    let command = lines::parse(line, &mut inputs);
+    if paper.len() < PAPER {
+        return 0;
+    }
+    let mut inputs = [0i32; INPUTS];
+    let command = parse(line, &mut inputs);
     match command {
-        Command::Define(letter) => define(store, number, letter, &line[4..]),
-        Command::Withdraw(letter) => withdraw(store, number, letter),
-        Command::Run(letter, allowance, count) => run(
-            store,
-            number,
-            letter,
-            allowance,
-            &inputs[..count],
-        ),
-        Command::Bad => told(store, number, Refusal::BadLine.number()),
+        Command::Define(letter) => {
+            let kept = *vars;
+            let answer = lent::define(cells, used, kept, letter, &line[FIELD_START..]);
+            tell(paper, number, answer)
+        }
+        Command::Withdraw(letter) => {
+            let kept = *vars;
+            let answer = lent::withdraw(cells, used, kept, letter);
+            tell(paper, number, answer)
+        }
+        Command::Run(letter, allowance, count) => {
+            let counts = *used;
+            execute(
+                cells,
+                counts,
+                vars,
+                number,
+                letter,
+                allowance,
+                &inputs[..count],
+                paper,
+            )
+        }
+        Command::Bad => tell(paper, number, Refusal::BadLine.number()),
     }
 }

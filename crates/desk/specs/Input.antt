@@ -1,39 +1,88 @@
 -- The desk within its input: what each byte does to the store, the count of lines and the line that is read. What a line prints goes to standard
 -- output, of which no contract speaks.
-use Prim.Native.Nat.{ℕ, _+_}
+use mathlib.Core.Path.{_≡_}
+use Prim.Native.Nat.{ℕ, suc, _+_, _≤_}
 use mathlib.Core.Bool.{cond}
 use mathlib.Core.List.{List, [], _∷_, _++_}
 use lib.ListN.{length, take}
 use lib.Dec.{ltb, eqb}
-use Rattle.language.specs.Store.{Store}
-use Rattle.engine.specs.Stored.{stored}
+use Rattle.book.specs.Store.{Store}
+use Rattle.lines.specs.Lines.{maxLine}
+use Rattle.figures.specs.Printed.{newlineByte}
 use Rattle.console.specs.Desk.{deskLine}
 use Rattle.desk.specs.declared.Desk.{Desk}
 
--- the store, how many lines are done, and the bytes of the next line
+-- "Lines past 9,999 are not read."
+abbrev pub maxLines : ℕ
+maxLines = 9999
+
+-- "lines to 300 bytes before the newline": of a longer one the first 301 bytes are kept
+abbrev pub keptBytes : ℕ
+keptBytes = suc maxLine
+
+-- the bytes of output that are held before they are written
+abbrev pub heldBytes : ℕ
+heldBytes = 65536
+
+-- The store, how many lines are done, and the bytes of the next line.
 pub record Progress : Type 0 where
   pub store : Store
   pub done : ℕ
   pub line : List ℕ
 
--- the code's, with its line buffer
-abbrev pub progress : Desk → List ℕ → Progress
-progress d b = record { store = stored (d .store); done = d .done; line = take (d .kept) b }
+-- the code's, with its store and its line buffer
+abbrev pub progress : Store → Desk → List ℕ → Progress
+progress st d b = record { store = st; done = d .done; line = take (d .kept) b }
 
--- "lines to 300 bytes before the newline": of a longer one the first 301 bytes are kept
+-- a line with one byte more
 unfoldable pub longer : List ℕ → ℕ → List ℕ
-longer l b = cond (ltb (length l) 301) (l ++ (b ∷ [])) l
+longer l b = cond (ltb (length l) keptBytes) (l ++ (b ∷ [])) l
 
--- the line is whole: "Lines past 9,999 are not read."
+-- the line is whole
 unfoldable pub ended : Progress → Progress
 ended p =
-    cond (ltb (p .done) 9999) (record { store = deskLine (p .store) (p .done + 1) (p .line) .0; done = p .done + 1; line = [] }) p
+    cond (ltb (p .done) maxLines) (record { store = deskLine (p .store) (p .done + 1) (p .line) .0; done = p .done + 1; line = [] }) p
 
+-- one byte of input
 unfoldable pub fedByte : ℕ → Progress → Progress
 unfolding longer ended
-fedByte b p = cond (eqb b 10) (ended p) (record { store = p .store; done = p .done; line = longer (p .line) b })
+fedByte b p = cond (eqb b newlineByte) (ended p) (record { store = p .store; done = p .done; line = longer (p .line) b })
 
+-- a part of the input
 unfoldable pub fed : List ℕ → Progress → Progress
 unfolding fedByte
 fed [] p = p
 fed (b ∷ l) p = fed l (fedByte b p)
+
+-- ── the code's buffers ──────────────────────────────────────────────────────────────────────────
+
+-- so many bytes of a line are kept, in a buffer of 301
+pub record Keeping (kept : ℕ) (l : List ℕ) : Type 0 where
+  pub few : kept ≤ keptBytes
+  pub whole : length l ≡ keptBytes
+
+-- the line l with the byte b after its first bytes is l′, of which r are kept
+pub record Kept (l : List ℕ) (kept b : ℕ) (l′ : List ℕ) (r : ℕ) : Type 0 where
+  pub few : r ≤ keptBytes
+  pub bytes : take r l′ ≡ longer (take kept l) b
+
+-- so many bytes of output are held, in a buffer of 65,536
+pub record Holding (held : ℕ) (o : List ℕ) : Type 0 where
+  pub few : held ≤ heldBytes
+  pub whole : length o ≡ heldBytes
+
+-- what is kept and held fits the buffers
+pub record Within (d : Desk) : Type 0 where
+  pub kept : d .kept ≤ keptBytes
+  pub held : d .held ≤ heldBytes
+
+-- the same with the buffers
+pub record Fits (d : Desk) (l o : List ℕ) : Type 0 where
+  pub within : Within d
+  pub line : length l ≡ keptBytes
+  pub out : length o ≡ heldBytes
+
+-- the desk d with the store st and the line buffer l has come to p
+pub record Comes (d : Desk) (st : Store) (l : List ℕ) (p : Progress) : Type 0 where
+  pub within : Within d
+  pub to : progress st d l ≡ p

@@ -4,21 +4,22 @@ use mathlib.Core.Bool.{Bool, cond}
 use mathlib.Core.List.{List, [], _∷_}
 use Prim.Native.Nat.{ℕ}
 use lib.IntN.{ℤ}
-use Rattle.language.specs.Book.{Reply}
-use Rattle.language.specs.Store.{storeRun}
-use Rattle.runner.specs.Answer.{storeOf}
+use Rattle.book.specs.declared.Report.{Report}
+use Rattle.book.specs.Calls.{Call}
+use Rattle.book.specs.Store.{Store, storeCall}
 
--- the reply of a run over these arrays
-abbrev pub replied : List ℤ → List ℕ → List ℤ → ℕ → ℕ → List ℤ → List ℤ → List ℕ → Reply
-replied c u v l n i p o = storeRun (storeOf c u v) l n i p o .1
-
+-- a truth as a number
 abbrev pub truthFigure : Bool → ℕ
 truthFigure t = cond t 1 0
 
--- a reply, part by part
-pub record Opened (r : Reply) (number : ℕ) (vars list : List ℤ) (output figures : List ℕ) : Type 0 where
-  pub is-number : number ≡ r .number
-  pub is-vars : vars ≡ r .variables
-  pub is-list : list ≡ r .list
-  pub is-output : output ≡ r .output
-  pub is-figures : figures ≡ truthFigure (r .truth) ∷ r .steps ∷ r .height ∷ r .taken ∷ r .written ∷ []
+-- the figures of a report beside its number
+abbrev pub figuresOf : Report → List ℕ
+figuresOf r = truthFigure (r .truth) ∷ r .steps ∷ r .height ∷ r .taken ∷ r .written ∷ []
+
+-- the call c of the store st, part by part
+pub record Opened (st : Store) (c : Call) (number : ℕ) (vars list : List ℤ) (output figures : List ℕ) : Type 0 where
+  pub is-number : number ≡ storeCall st c .1 .report .number
+  pub is-vars : vars ≡ storeCall st c .1 .variables
+  pub is-list : list ≡ storeCall st c .1 .list
+  pub is-output : output ≡ storeCall st c .1 .output
+  pub is-figures : figures ≡ figuresOf (storeCall st c .1 .report)

@@ -1,92 +1,74 @@
 -- Demand 3 of the program: the contracts, chained, answer as the book does.
-use mathlib.Core.Path.{_≡_, refl, sym, ap, _∙_, subst}
-use Prim.Native.Nat.{ℕ, suc, _+_, _-_}
+use mathlib.Core.Path.{_≡_, refl, sym, ap, _∙_}
+use Prim.Native.Nat.{ℕ, suc}
 use native.Mathlib.Omega.{arith}
-use mathlib.Core.List.{List, [], _∷_, map}
-use lib.IntN.{ℤ}
-use Rattle.language.specs.Book.{Call, Reply, tells, freshBook, isLetter, letterIndex, start, report}
+use mathlib.Core.List.{List, [], _∷_}
+use Rattle.language.specs.Answers.{isRefusal}
+use Rattle.language.specs.Letters.{letterIndex, letterByte, firstLetter, lastLetter}
+use Rattle.language.specs.Effects.{start}
 use Rattle.language.specs.Meaning.{meaning}
-use Rattle.language.specs.Store as Definition
-use Rattle.language.specs.Store.{freshStore, storeDefine, storeWithdraw, storeRun, storeTold, storeCall}
-use Rattle.language.specs.History as Definitions
-use Rattle.language.specs.History.{storeAnswers, bookAnswers, standing, readText}
-use Rattle.language.specs.Tokens.{between}
-use Rattle.language.specs.Statements.{isNone, runAfter, standingTexts}
 use Rattle.language.proofs.Between.{between-bounds}
-use Rattle.language.proofs.History.{answers-agree}
-use Rattle.language.proofs.Standing as Language
+use Rattle.book.specs.Calls.{Run, runs}
+use Rattle.book.specs.Replies.{Reply, reported}
+use Rattle.book.specs.Store as Definition
+use Rattle.book.specs.Store.{freshStore, storeCall}
+use Rattle.book.specs.History as Definitions
+use Rattle.book.specs.History.{answers, after, storeAnswers, standing, readText}
+use Rattle.book.specs.Statements.{isNone, runAfter, standingTexts}
+use Rattle.book.proofs.History.{answers-agree}
+use Rattle.book.proofs.HistoryStanding as Book
 use Rattle.engine.specs.declared.Store.{Store}
-use Rattle.engine.specs.declared.Answer.{Answer}
-use Rattle.engine.specs.Stored.{stored, told, answered}
-use Rattle.engine.specs.Demand3.{Step, defined, withdrew, ran, Promised, callOf, replyOf, Demand3, storeAfter, stood, Follows, RefusedExactly, ObeysStanding}
+use Rattle.engine.specs.Stored.{stored}
+use Rattle.engine.specs.Demand3.{Step, Promised, callsOf, repliesOf, Demand3, storeAfter, stood, Follows, RefusedExactly, ObeysStanding}
 
--- a step that keeps its promise answers as the definitions do, over the same store
-answer : (s : Definition.Store) (x : Definition.Store × Reply) (c : Call) → x ≡ storeCall s c → (rs : List Reply) (cs : List Call)
-    → rs ≡ storeAnswers (x .0) cs → x .1 ∷ rs ≡ storeAnswers s (c ∷ cs)
-unfolding storeAnswers
-answer s x c e rs cs h = λ i. e i .1 ∷ (h ∙ ap (λ z. storeAnswers (z .0) cs) e) i
-
-chained : (s : Store) (ss : List Step) → Promised s ss → map replyOf ss ≡ storeAnswers (stored s) (map callOf ss)
-unfolding storeAnswers storeCall storeTold
+-- steps that keep their promises answer as the definitions do, over the same stores
+chained : (s : Store) (ss : List Step) → Promised s ss → repliesOf ss ≡ storeAnswers (stored s) (callsOf ss)
+unfolding answers
 chained s [] h = refl
-chained s (defined l t r ∷ ss) h =
-    answer (stored s) (storeTold (told r)) (callOf (defined l t r)) (ap storeTold (h .0)) (map replyOf ss) (map callOf ss) (chained (r .store) ss (h .1))
-chained s (withdrew l r ∷ ss) h =
-    answer (stored s) (storeTold (told r)) (callOf (withdrew l r)) (ap storeTold (h .0)) (map replyOf ss) (map callOf ss) (chained (r .store) ss (h .1))
-chained s (ran l n i p o r p′ o′ ∷ ss) h =
-    answer (stored s) (answered r p′ o′) (callOf (ran l n i p o r p′ o′)) (h .0) (map replyOf ss) (map callOf ss) (chained (r .store) ss (h .1))
+chained s (x ∷ ss) h =
+    let e = chained (x .store) ss (h .1) ∙ ap (λ z. storeAnswers (z .0) (callsOf ss)) (h .0) in
+    λ i. h .0 i .1 ∷ e i
 
 pub demand-3 : Demand3
-demand-3 s ss e h = chained s ss h ∙ ap (λ z. storeAnswers z (map callOf ss)) e ∙ answers-agree (map callOf ss)
+demand-3 s ss e h = chained s ss h ∙ ap (λ z. storeAnswers z (callsOf ss)) e ∙ answers-agree (callsOf ss)
 
 -- ── a run that follows ──────────────────────────────────────────────────────────────────────────
 
 -- the store after the steps is the definitions'
-after : (s : Store) (ss : List Step) → Promised s ss → stored (storeAfter s ss) ≡ Definitions.storeAfter (stored s) (map callOf ss)
-unfolding Definitions.storeAfter storeCall storeTold
-after s [] h = refl
-after s (defined l t r ∷ ss) h = after (r .store) ss (h .1) ∙ ap (λ z. Definitions.storeAfter (z .0) (map callOf ss)) (h .0)
-after s (withdrew l r ∷ ss) h = after (r .store) ss (h .1) ∙ ap (λ z. Definitions.storeAfter (z .0) (map callOf ss)) (h .0)
-after s (ran l n i p o r p′ o′ ∷ ss) h = after (r .store) ss (h .1) ∙ ap (λ z. Definitions.storeAfter (z .0) (map callOf ss)) (h .0)
+ended : (s : Store) (ss : List Step) → Promised s ss → stored (storeAfter s ss) ≡ Definitions.storeAfter (stored s) (callsOf ss)
+unfolding after
+ended s [] h = refl
+ended s (x ∷ ss) h = ended (x .store) ss (h .1) ∙ ap (λ z. Definitions.storeAfter (z .0) (callsOf ss)) (h .0)
 
-module _ (s : Store) (ss : List Step) (l n : ℕ) (i p : List ℤ) (o : List ℕ) (r : Answer) (p′ : List ℤ) (o′ : List ℕ)
-    (f : Follows s ss l n i p o r p′ o′) where
-  cs : List Call
-  cs = map callOf ss
+module _ (s : Store) (ss : List Step) (x : Run) (y : Step) (f : Follows s ss x y) where
+  replies : repliesOf ss ≡ storeAnswers freshStore (callsOf ss)
+  replies = chained s ss (f .session) ∙ ap (λ z. storeAnswers z (callsOf ss)) (f .fresh)
 
-  replies : map replyOf ss ≡ storeAnswers freshStore cs
-  unfolding cs
-  replies = chained s ss (f .session) ∙ ap (λ z. storeAnswers z (map callOf ss)) (f .fresh)
-
-  final : stored (storeAfter s ss) ≡ Definitions.storeAfter freshStore cs
-  unfolding cs
-  final = after s ss (f .session) ∙ ap (λ z. Definitions.storeAfter z (map callOf ss)) (f .fresh)
+  final : stored (storeAfter s ss) ≡ Definitions.storeAfter freshStore (callsOf ss)
+  final = ended s ss (f .session) ∙ ap (λ z. Definitions.storeAfter z (callsOf ss)) (f .fresh)
 
   -- the answer is the definitions'
-  same : answered r p′ o′ .1 ≡ runAfter cs l n i p o
-  unfolding storeCall
-  same = ap (λ z. z .1) (f .promise ∙ ap (λ z. storeRun z l n i p o) final)
+  same : y .reply ≡ runAfter (callsOf ss) x
+  same = ap (λ z. z .1) (f .promise ∙ ap (λ z. storeCall z (runs x)) final)
 
-  stands : (a : ℕ) → stood ss a ≡ standing cs (storeAnswers freshStore cs) a
-  unfolding cs
-  stands a = ap (λ z. standing (map callOf ss) z a) replies
+  stands : (a : ℕ) → stood ss a ≡ standing (callsOf ss) (storeAnswers freshStore (callsOf ss)) a
+  stands a = ap (λ z. standing (callsOf ss) z a) replies
 
 pub refused-exactly : RefusedExactly
-refused-exactly s ss l n i p o r p′ o′ f =
-    ap (λ (z : Reply). between 1 14 (z .number)) (same s ss l n i p o r p′ o′ f)
-    ∙ Language.refused-exactly (cs s ss l n i p o r p′ o′ f) l n i p o (f .letter) (f .inputs) (f .places)
-    ∙ ap isNone (sym (stands s ss l n i p o r p′ o′ f l))
+refused-exactly s ss x y f =
+    ap (λ (z : Reply). isRefusal (z .report .number)) (same s ss x y f)
+    ∙ Book.refused-exactly (callsOf ss) x (f .admissible)
+    ∙ ap isNone (sym (stands s ss x y f (x .letter)))
 
 pub obeys-standing : ObeysStanding
-unfolding cs
-obeys-standing s ss l n i p o r p′ o′ w f e =
-    let b = between-bounds 97 122 l (f .letter) in
-    let q : 97 + letterIndex l ≡ l = omega arith in
-    let all : (λ a. readText (stood ss (97 + a))) ≡ standingTexts (map callOf ss) = λ j a. readText (stands s ss l n i p o r p′ o′ f (97 + a) j) in
-    let v : storeAfter s ss .vars ≡ Definitions.storeAfter freshStore (map callOf ss) .variables = ap (λ z. z .variables) (final s ss l n i p o r p′ o′ f) in
-    same s ss l n i p o r p′ o′ f
-    ∙ Language.obeys-standing (map callOf ss) l n i p o w (f .letter) (f .inputs) (f .places)
-    (sym (ap (λ g. g (letterIndex l)) all) ∙ ap (λ z. readText (stood ss z)) q ∙ e)
-    ∙ ap (λ g. report (Definitions.storeAfter freshStore (map callOf ss) .variables) n
-    (meaning g (suc n) (letterIndex l) w 0 (start (Definitions.storeAfter freshStore (map callOf ss) .variables) i o) n)) (sym all)
-    ∙ ap (λ z. report z n (meaning (λ a. readText (stood ss (97 + a))) (suc n) (letterIndex l) w 0 (start z i o) n)) (sym v)
+obeys-standing s ss x y w f e =
+    let b = between-bounds firstLetter lastLetter (x .letter) (f .admissible .letter) in
+    let q : letterByte (letterIndex (x .letter)) ≡ x .letter = omega arith in
+    let all : (λ a. readText (stood ss (letterByte a))) ≡ standingTexts (callsOf ss) = λ j a. readText (stands s ss x y f (letterByte a) j) in
+    let v : storeAfter s ss .vars ≡ Definitions.storeAfter freshStore (callsOf ss) .variables = ap (λ z. z .variables) (final s ss x y f) in
+    same s ss x y f
+    ∙ Book.obeys-standing (callsOf ss) x w (f .admissible) (sym (ap (λ g. g (letterIndex (x .letter))) all) ∙ ap (λ z. readText (stood ss z)) q ∙ e)
+    ∙ ap (λ g. reported (Definitions.storeAfter freshStore (callsOf ss) .variables) (x .allowance)
+    (meaning g (suc (x .allowance)) (letterIndex (x .letter)) w 0 (start (Definitions.storeAfter freshStore (callsOf ss) .variables) (x .inputs) (x .output)) (x .allowance))) (sym all)
+    ∙ ap (λ z. reported z (x .allowance)
+    (meaning (λ a. readText (stood ss (letterByte a))) (suc (x .allowance)) (letterIndex (x .letter)) w 0 (start z (x .inputs) (x .output)) (x .allowance))) (sym v)

@@ -1,2 +1,2 @@
-pub mod Calls
+pub mod LentCalls
 pub mod Demand3

@@ -1,2 +1,3 @@
 pub mod Stored
+pub mod Lent
 pub mod Demand3

@@ -1,32 +1,22 @@
--- The code's store and answers as the language's definitions have them.
+-- The code's store and answers as the book's definitions have them.
 use Prim.Native.Nat.{ℕ}
+use mathlib.Core.List.{List}
+use lib.IntN.{ℤ}
+use Rattle.book.specs.Calls.{Call}
+use Rattle.book.specs.Replies.{Reply}
+use Rattle.book.specs.Store as Definition
 use Rattle.engine.specs.declared.Store.{Store}
 use Rattle.engine.specs.declared.Told.{Told}
 use Rattle.engine.specs.declared.Answer.{Answer}
-use mathlib.Core.List.{List}
-use lib.IntN.{ℤ}
-use Rattle.language.specs.Book.{Reply}
-use Rattle.language.specs.Store as Definition
 
+-- the code's store
 abbrev pub stored : Store → Definition.Store
-stored s = record { cells = s .cells; used = s .used; variables = s .vars }
+stored s = Definition.storeOf (s .cells) (s .used) (s .vars)
 
-abbrev pub told : Told → Definition.Store × ℕ
-told r = (stored (r .store), r .number)
+-- what a define or a withdraw, the call c, returned
+abbrev pub told : Told → Call → Definition.Store × Reply
+told r c = Definition.told (stored (r .store)) (r .number) c
 
--- a run's answer with the list's places and the output as the run leaves them
+-- what a run returned, with the list's places and the output as it leaves them
 abbrev pub answered : Answer → List ℤ → List ℕ → Definition.Store × Reply
-answered r p o = (
-  stored (r .store),
-  record {
-    number = r .number;
-    truth = r .truth;
-    steps = r .steps;
-    height = r .height;
-    taken = r .taken;
-    written = r .written;
-    list = p;
-    output = o;
-    variables = r .store .vars;
-  },
-)
+answered r p o = Definition.answered (stored (r .store)) (r .report) p o

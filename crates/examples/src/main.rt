@@ -1,6 +1,8 @@
 // Document 01's examples that are not starred, each tried and printed beside what it should give. The last line counts the differences.
 use engine::Store;
-use instructions::operands::bounded;
+use language::HEIGHT;
+use language::MOST_VALUE;
+use operands::cells::bounded;
 
 // What a run gave: its number, its steps and the top of its list, 0 if none.
 struct Given {
@@ -15,26 +17,27 @@ struct Linked {
     cells: usize,
 }
 
-fn top(list: &[i32; 64], height: usize) -> i32 {
+fn top(list: &[i32; HEIGHT], height: usize) -> i32 {
     if height == 0 {
         return 0;
     }
     let at = height - 1;
-    if at < 64 { list[at] } else { 0 }
+    if at < HEIGHT { list[at] } else { 0 }
 }
 
 // d doubles 1 as often as the top says, and m asks d for its input.
 fn power(input: i32) -> Given {
     let inputs = [input; 1];
-    let mut list = [0i32; 64];
+    let mut list = [0i32; HEIGHT];
     let mut output = [0u8; 16];
     let d = Store::fresh().define(b'd', b"(0L'/1';'/1'-d'/2'*;)");
     let m = d.store.define(b'm', b"(Id;)");
     let r = m.store.run(b'm', 1000, &inputs, &mut list, &mut output);
+    let report = r.report;
     Given {
-        number: r.number,
-        steps: r.steps,
-        top: top(&list, r.height),
+        number: report.number,
+        steps: report.steps,
+        top: top(&list, report.height),
     }
 }
 
@@ -66,7 +69,7 @@ fn print_value(x: i32) {
     if x < 0 {
         io::write_all(1, b"below 0");
     } else {
-        io::print_decimal(1, bounded(x, 999999999, 1000000000) as u64);
+        io::print_decimal(1, bounded(x, MOST_VALUE as usize, 1000000000) as u64);
     }
 }
 

@@ -1,9 +1,1 @@
-pub mod Ints
-pub mod Loop
-pub mod Cells
-pub mod Tables
-pub mod Frames
-pub mod Decoding
-pub mod Values
-pub mod Prints
-pub mod Columns
+pub mod Effects

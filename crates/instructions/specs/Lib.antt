@@ -1,3 +1,1 @@
-pub mod Loop
-pub mod Held
-pub mod Operands
+pub mod Copies

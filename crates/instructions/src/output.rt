@@ -1,70 +1,34 @@
 // `O`, `X` and prints: what writes to the caller's output. "paper out: the bytes of a print, `O` or `X` do not all fit"
 ghost use mathlib.Core.Path.{_≡_};
-ghost use Prim.Native.Nat.{_≤_, _<_, _+_};
-ghost use lib.IntN.{natAbs};
-ghost use lib.ListN.{length};
 ghost use lib.Seq.{paste};
+ghost use Rattle.language.specs.Decimals.{padded};
+ghost use Rattle.language.specs.Limits.{writeWidth};
 ghost use Rattle.language.specs.Syntax.{write, newline};
-ghost use Rattle.language.specs.Effects.{column};
-ghost use Rattle.language.specs.Machine.{isOperator, isPrint};
-ghost use Rattle.instructions.specs.Held.{Held, outcome, markTurn, onMachine, onTables, onStack, onOutput, Inside};
-ghost use Rattle.instructions.specs.Operands.{printsFrom};
-use crate::DAMAGED;
-use crate::LIST_EMPTY;
-use crate::Machine;
-use crate::PAPER_OUT;
-use crate::SPENT;
-use crate::operands::bounded;
-use crate::operands::print_byte;
-use crate::operands::prints;
+ghost use Rattle.language.specs.Machine.{isPrint};
+ghost use Rattle.numerals.specs.Numerals.{written};
+ghost use Rattle.operands.specs.Held.{printing, writing};
+ghost use Rattle.operands.specs.Operands.{printsFrom};
+ghost use Rattle.operands.specs.Turns.{Turns, operatorTurn, markAt};
+ghost use Rattle.operands.specs.Ready.{Writing, Printing};
+ghost use Rattle.instructions.specs.Copies.{Copying};
+use language::Ending;
+use language::HEIGHT;
+use language::STORE_CELLS;
 use language::Table;
+use language::WRITE_WIDTH;
+use numerals::value_column;
+use numerals::write_bytes;
+use operands::Machine;
+use operands::cells::bounded;
+use operands::cells::print_byte;
+use operands::cells::prints;
 
-fn distance(v: i32) -> usize
-    ensures { λ r. ⌜ r ≡ natAbs v ⌝ }
-{
-    let w = v as i64;
-    if w < 0 { (0 - w) as usize } else { w as usize }
-}
+// The length of a print for which no table has room.
+const TOO_LONG: usize = Table::CELLS + 1;
 
-fn digit_byte(n: usize) -> u8
-    requires { ⌜ n < 10 ⌝ }
-    ensures { λ r. ⌜ r ≡ 48 + n ⌝ }
-{
-    48 + (n as u8)
-}
-
-// A value right-justified in 12 columns: blanks, perhaps `-`, and its decimal digits.
-fn column_of(v: i32) -> [u8; 12]
-    ensures { λ r. ⌜ r ≡ column v ⌝ }
-{
-    let mut text = [32u8; 12];
-    let mut n = distance(v);
-    let mut k: usize = 11;
-    while 9 < n {
-        text[k] = digit_byte(n % 10);
-        n = n / 10;
-        k = k - 1;
-    }
-    text[k] = digit_byte(n);
-    if v < 0 {
-        text[k - 1] = 45;
-    }
-    text
-}
-
-fn copy_text(output: &mut [u8], from: usize, text: &[u8; 12])
-    requires { ⌜ (from + 12 ≤ length (now output)) × (length (now text) ≡ 12) ⌝ }
-    ensures { λ _. ⌜ now (output .exit) ≡ paste (now (output .entry)) from (now (text .entry)) 12 ⌝ }
-{
-    let mut i: usize = 0;
-    while i < 12 {
-        output[from + i] = text[i];
-        i += 1;
-    }
-}
-
-fn copy_cells(output: &mut [u8], to: usize, cells: &[i32; 6500], from: usize, n: usize)
-    requires { ⌜ (to + n ≤ length (now output)) × (from + n ≤ 6500) ⌝ }
+// The bytes of a print.
+fn copy_cells(output: &mut [u8], to: usize, cells: &[i32; STORE_CELLS], from: usize, n: usize)
+    requires { ⌜ Copying (now output) to from n ⌝ }
     ensures { λ _. ⌜ now (output .exit) ≡ paste (now (output .entry)) to (printsFrom (now (cells .entry)) from n) n ⌝ }
 {
     let mut i: usize = 0;
@@ -74,77 +38,83 @@ fn copy_cells(output: &mut [u8], to: usize, cells: &[i32; 6500], from: usize, n:
     }
 }
 
+// A value's columns at a place of the output: the place after them.
+fn put_column(output: &mut [u8], at: usize, value: i32) -> usize
+    ensures { λ r. ⌜ (r, now (output .exit)) ≡ written (now (output .entry)) at (padded writeWidth value) ⌝ }
+{
+    let text = value_column(value);
+    write_bytes(output, at, &text)
+}
+
 // The mark `O`.
-pub fn write(m: Machine, list: &[i32; 64], output: &mut [u8]) -> Machine
-    requires { ⌜ (m .height ≤ 64) × ((m .written ≤ length (now output)) × (m .at ≤ 250)) ⌝ }
-    ensures { λ r. ⌜ ((h : Held) → outcome (onMachine r (onStack (now (list .entry)) (onOutput (now (output .exit)) h))) ≡ markTurn (isOperator write) (onMachine m (onStack (now (list .entry)) (onOutput (now (output .entry)) h)))) ⌝ }
+pub fn write(m: Machine, list: &[i32; HEIGHT], output: &mut [u8]) -> Machine
+    requires { ⌜ Writing m (now output) ⌝ }
+    ensures { λ r. ⌜ Turns (operatorTurn write)
+        (writing m (now (list .entry)) (now (output .entry))) (writing r (now (list .entry)) (now (output .exit))) ⌝ }
 {
     if m.left == 0 {
-        return m.stop(SPENT);
+        return m.stop(Ending::Spent);
     }
     let h = m.height;
     if h < 1 {
-        return m.stop(LIST_EMPTY);
+        return m.stop(Ending::ListEmpty);
     }
     let w = m.written;
-    if output.len() - w < 12 {
-        return m.stop(PAPER_OUT);
+    if output.len() - w < WRITE_WIDTH {
+        return m.stop(Ending::PaperOut);
     }
-    let text = column_of(list[h - 1]);
-    copy_text(output, w, &text);
     let mut r = m;
-    r.written = w + 12;
+    r.written = put_column(output, w, list[h - 1]);
     r.go(m.at + 1, h)
 }
 
 // The mark `X`.
 pub fn newline(m: Machine, output: &mut [u8]) -> Machine
-    requires { ⌜ (m .written ≤ length (now output)) × (m .at ≤ 250) ⌝ }
-    ensures { λ r. ⌜ ((h : Held) → outcome (onMachine r (onOutput (now (output .exit)) h)) ≡ markTurn (isOperator newline) (onMachine m (onOutput (now (output .entry)) h))) ⌝ }
+    requires { ⌜ Writing m (now output) ⌝ }
+    ensures { λ r. ⌜ Turns (operatorTurn newline) (printing m (now (output .entry))) (printing r (now (output .exit))) ⌝ }
 {
     if m.left == 0 {
-        return m.stop(SPENT);
+        return m.stop(Ending::Spent);
     }
     let w = m.written;
     if w < output.len() {
-        output[w] = 10;
+        output[w] = b'\n';
         let mut r = m;
         r.written = w + 1;
         return r.go(m.at + 1, m.height);
     }
-    m.stop(PAPER_OUT)
+    m.stop(Ending::PaperOut)
 }
 
 // A print: its length and the form of each byte, then the allowance, then the room.
-pub fn print<'a>(
+pub fn print(
     m: Machine,
-    cells: &'a [i32; 6500],
-    used: &'a [usize; 26],
+    cells: &[i32; STORE_CELLS],
+    base: usize,
+    end: usize,
     output: &mut [u8],
 ) -> Machine
-    requires { ⌜ (m .written ≤ length (now output)) × Inside m (now used) ⌝ }
-    ensures { λ r. ⌜ ((h : Held) → outcome (onMachine r (onTables (now (cells .entry)) (now (used .entry)) (onOutput (now (output .exit)) h))) ≡ markTurn isPrint (onMachine m (onTables (now (cells .entry)) (now (used .entry)) (onOutput (now (output .entry)) h)))) ⌝ }
+    requires { ⌜ Printing base end m (now output) ⌝ }
+    ensures { λ r. ⌜ Turns (markAt (now (cells .entry)) base end isPrint) (printing m (now (output .entry))) (printing r (now (output .exit))) ⌝ }
 {
     let at = m.at;
-    let k = m.letter;
-    let end = used[k];
     if end < at + 3 {
-        return m.stop(DAMAGED);
+        return m.stop(Ending::Damaged);
     }
-    let n = bounded(cells[k * Table::CELLS + at], 250, 251);
+    let n = bounded(cells[base + at], Table::CELLS, TOO_LONG);
     if end < at + 3 + n {
-        return m.stop(DAMAGED);
+        return m.stop(Ending::Damaged);
     }
-    let from = k * Table::CELLS + at + 1;
+    let from = base + at + 1;
     if !prints(cells, from, n) {
-        return m.stop(DAMAGED);
+        return m.stop(Ending::Damaged);
     }
     if m.left == 0 {
-        return m.stop(SPENT);
+        return m.stop(Ending::Spent);
     }
     let w = m.written;
     if output.len() - w < n {
-        return m.stop(PAPER_OUT);
+        return m.stop(Ending::PaperOut);
     }
     copy_cells(output, w, cells, from, n);
     let mut r = m;

@@ -1,110 +1,106 @@
 // `L P I F S` and constants: what moves values onto the operand stack, off it and beside it.
-ghost use mathlib.Core.Path.{_≡_};
-ghost use Prim.Native.Nat.{_≤_, _<_, _+_};
 ghost use Rattle.language.specs.Syntax.{discard, copy, input, fetch, save};
-ghost use Rattle.language.specs.Effects.{pushed};
-ghost use Rattle.language.specs.Machine.{isOperator, isVariable, isConstant};
-ghost use Rattle.instructions.specs.Loop.{effectTurn};
-ghost use Rattle.instructions.specs.Held.{Held, stateOf, spotOf, outcome, markTurn, onMachine, onTables, onInputs, onVariables, onStack, Inside};
-use crate::DAMAGED;
-use crate::LIST_EMPTY;
-use crate::LIST_FULL;
-use crate::Machine;
-use crate::NO_INPUT;
-use crate::SPENT;
-use crate::operands::bounded;
-use crate::operands::is_value;
-use language::Table;
+ghost use Rattle.language.specs.Machine.{isVariable, isConstant};
+ghost use Rattle.operands.specs.Held.{stacked, fed, storing};
+ghost use Rattle.operands.specs.Turns.{Turns, pushing, operatorTurn, markAt};
+ghost use Rattle.operands.specs.Ready.{Ready, Pushing, Reading};
+use language::Ending;
+use language::HEIGHT;
+use language::STORE_CELLS;
+use language::VARIABLES;
+use operands::Machine;
+use operands::cells::digit_at;
+use operands::cells::is_value;
 
 // A value is pushed, and the next cell is at.
-fn push(m: Machine, list: &mut [i32; 64], v: i32, at: usize) -> Machine
-    requires { ⌜ (m .height ≤ 64) × (0 < m .left) ⌝ }
-    ensures { λ r. ⌜ ((h : Held) → outcome (onMachine r (onStack (now (list .exit)) h)) ≡ effectTurn (pushed (stateOf (onMachine m (onStack (now (list .entry)) h))) v) at (spotOf (onMachine m (onStack (now (list .entry)) h)))) ⌝ }
+fn push(m: Machine, list: &mut [i32; HEIGHT], v: i32, at: usize) -> Machine
+    requires { ⌜ Pushing m ⌝ }
+    ensures { λ r. ⌜ Turns (pushing v at) (stacked m (now (list .entry))) (stacked r (now (list .exit))) ⌝ }
 {
     let h = m.height;
-    if h < 64 {
+    if h < HEIGHT {
         list[h] = v;
         m.go(at, h + 1)
     } else {
-        m.stop(LIST_FULL)
+        m.stop(Ending::ListFull)
     }
 }
 
 // The mark `L`.
-pub fn discard(m: Machine, list: &mut [i32; 64]) -> Machine
-    requires { ⌜ (m .height ≤ 64) × (m .at ≤ 250) ⌝ }
-    ensures { λ r. ⌜ ((h : Held) → outcome (onMachine r (onStack (now (list .exit)) h)) ≡ markTurn (isOperator discard) (onMachine m (onStack (now (list .entry)) h))) ⌝ }
+pub fn discard(m: Machine, list: &mut [i32; HEIGHT]) -> Machine
+    requires { ⌜ Ready m ⌝ }
+    ensures { λ r. ⌜ Turns (operatorTurn discard) (stacked m (now (list .entry))) (stacked r (now (list .exit))) ⌝ }
 {
     if m.left == 0 {
-        return m.stop(SPENT);
+        return m.stop(Ending::Spent);
     }
     let h = m.height;
     if h < 1 {
-        return m.stop(LIST_EMPTY);
+        return m.stop(Ending::ListEmpty);
     }
     list[h - 1] = 0;
     m.go(m.at + 1, h - 1)
 }
 
 // The mark `P`.
-pub fn copy(m: Machine, list: &mut [i32; 64]) -> Machine
-    requires { ⌜ (m .height ≤ 64) × (m .at ≤ 250) ⌝ }
-    ensures { λ r. ⌜ ((h : Held) → outcome (onMachine r (onStack (now (list .exit)) h)) ≡ markTurn (isOperator copy) (onMachine m (onStack (now (list .entry)) h))) ⌝ }
+pub fn copy(m: Machine, list: &mut [i32; HEIGHT]) -> Machine
+    requires { ⌜ Ready m ⌝ }
+    ensures { λ r. ⌜ Turns (operatorTurn copy) (stacked m (now (list .entry))) (stacked r (now (list .exit))) ⌝ }
 {
     if m.left == 0 {
-        return m.stop(SPENT);
+        return m.stop(Ending::Spent);
     }
     let h = m.height;
     if h < 1 {
-        return m.stop(LIST_EMPTY);
+        return m.stop(Ending::ListEmpty);
     }
     let v = list[h - 1];
     push(m, list, v, m.at + 1)
 }
 
 // The mark `I`: "25 before 22".
-pub fn input(m: Machine, inputs: &[i32], list: &mut [i32; 64]) -> Machine
-    requires { ⌜ (m .height ≤ 64) × (m .at ≤ 250) ⌝ }
-    ensures { λ r. ⌜ ((h : Held) → outcome (onMachine r (onInputs (now (inputs .entry)) (onStack (now (list .exit)) h))) ≡ markTurn (isOperator input) (onMachine m (onInputs (now (inputs .entry)) (onStack (now (list .entry)) h)))) ⌝ }
+pub fn input(m: Machine, inputs: &[i32], list: &mut [i32; HEIGHT]) -> Machine
+    requires { ⌜ Ready m ⌝ }
+    ensures { λ r. ⌜ Turns (operatorTurn input) (fed m (now (inputs .entry)) (now (list .entry))) (fed r (now (inputs .entry)) (now (list .exit))) ⌝ }
 {
     if m.left == 0 {
-        return m.stop(SPENT);
+        return m.stop(Ending::Spent);
     }
     let t = m.taken;
     let h = m.height;
     if t < inputs.len() {
-        if h < 64 {
+        if h < HEIGHT {
             list[h] = inputs[t];
             let mut r = m;
             r.taken = t + 1;
             return r.go(m.at + 1, h + 1);
         }
-        return m.stop(LIST_FULL);
+        return m.stop(Ending::ListFull);
     }
-    m.stop(NO_INPUT)
+    m.stop(Ending::NoInput)
 }
 
 // A constant.
-pub fn constant<'a>(
+pub fn constant(
     m: Machine,
-    cells: &'a [i32; 6500],
-    used: &'a [usize; 26],
-    list: &mut [i32; 64],
+    cells: &[i32; STORE_CELLS],
+    base: usize,
+    end: usize,
+    list: &mut [i32; HEIGHT],
 ) -> Machine
-    requires { ⌜ (m .height ≤ 64) × Inside m (now used) ⌝ }
-    ensures { λ r. ⌜ ((h : Held) → outcome (onMachine r (onTables (now (cells .entry)) (now (used .entry)) (onStack (now (list .exit)) h))) ≡ markTurn isConstant (onMachine m (onTables (now (cells .entry)) (now (used .entry)) (onStack (now (list .entry)) h)))) ⌝ }
+    requires { ⌜ Reading base end m ⌝ }
+    ensures { λ r. ⌜ Turns (markAt (now (cells .entry)) base end isConstant) (stacked m (now (list .entry))) (stacked r (now (list .exit))) ⌝ }
 {
     let at = m.at;
-    let k = m.letter;
-    if used[k] < at + 3 {
-        return m.stop(DAMAGED);
+    if end < at + 3 {
+        return m.stop(Ending::Damaged);
     }
-    let v = cells[k * Table::CELLS + at];
+    let v = cells[base + at];
     if !is_value(v) {
-        return m.stop(DAMAGED);
+        return m.stop(Ending::Damaged);
     }
     if m.left == 0 {
-        return m.stop(SPENT);
+        return m.stop(Ending::Spent);
     }
     push(m, list, v, at + 2)
 }
@@ -112,56 +108,52 @@ pub fn constant<'a>(
 // The mark `F`.
 pub fn fetch<'a>(
     m: Machine,
-    cells: &'a [i32; 6500],
-    used: &'a [usize; 26],
-    vars: &[i32; 10],
-    list: &mut [i32; 64],
+    cells: &'a [i32; STORE_CELLS],
+    base: usize,
+    end: usize,
+    vars: &'a [i32; VARIABLES],
+    list: &mut [i32; HEIGHT],
 ) -> Machine
-    requires { ⌜ (m .height ≤ 64) × Inside m (now used) ⌝ }
-    ensures { λ r. ⌜ ((h : Held) → outcome (onMachine r (onTables (now (cells .entry)) (now (used .entry)) (onVariables (now (vars .entry)) (onStack (now (list .exit)) h)))) ≡ markTurn (isVariable fetch) (onMachine m (onTables (now (cells .entry)) (now (used .entry)) (onVariables (now (vars .entry)) (onStack (now (list .entry)) h))))) ⌝ }
+    requires { ⌜ Reading base end m ⌝ }
+    ensures { λ r. ⌜ Turns (markAt (now (cells .entry)) base end (isVariable fetch))
+        (storing m (now (vars .entry)) (now (list .entry))) (storing r (now (vars .entry)) (now (list .exit))) ⌝ }
 {
     let at = m.at;
-    let k = m.letter;
-    if used[k] < at + 3 {
-        return m.stop(DAMAGED);
-    }
-    let d = bounded(cells[k * Table::CELLS + at], 10, 0);
+    let d = digit_at(cells, base, end, at);
     if d == 0 {
-        return m.stop(DAMAGED);
+        return m.stop(Ending::Damaged);
     }
     if m.left == 0 {
-        return m.stop(SPENT);
+        return m.stop(Ending::Spent);
     }
-    push(m, list, vars[d % 10], at + 2)
+    push(m, list, vars[d % VARIABLES], at + 2)
 }
 
 // The mark `S`.
 pub fn save<'a>(
     m: Machine,
-    cells: &'a [i32; 6500],
-    used: &'a [usize; 26],
-    vars: &mut [i32; 10],
-    list: &[i32; 64],
+    cells: &'a [i32; STORE_CELLS],
+    base: usize,
+    end: usize,
+    vars: &mut [i32; VARIABLES],
+    list: &'a [i32; HEIGHT],
 ) -> Machine
-    requires { ⌜ (m .height ≤ 64) × Inside m (now used) ⌝ }
-    ensures { λ r. ⌜ ((h : Held) → outcome (onMachine r (onTables (now (cells .entry)) (now (used .entry)) (onVariables (now (vars .exit)) (onStack (now (list .entry)) h)))) ≡ markTurn (isVariable save) (onMachine m (onTables (now (cells .entry)) (now (used .entry)) (onVariables (now (vars .entry)) (onStack (now (list .entry)) h))))) ⌝ }
+    requires { ⌜ Reading base end m ⌝ }
+    ensures { λ r. ⌜ Turns (markAt (now (cells .entry)) base end (isVariable save))
+        (storing m (now (vars .entry)) (now (list .entry))) (storing r (now (vars .exit)) (now (list .entry))) ⌝ }
 {
     let at = m.at;
-    let k = m.letter;
-    if used[k] < at + 3 {
-        return m.stop(DAMAGED);
-    }
-    let d = bounded(cells[k * Table::CELLS + at], 10, 0);
+    let d = digit_at(cells, base, end, at);
     if d == 0 {
-        return m.stop(DAMAGED);
+        return m.stop(Ending::Damaged);
     }
     if m.left == 0 {
-        return m.stop(SPENT);
+        return m.stop(Ending::Spent);
     }
     let h = m.height;
     if h < 1 {
-        return m.stop(LIST_EMPTY);
+        return m.stop(Ending::ListEmpty);
     }
-    vars[d % 10] = list[h - 1];
+    vars[d % VARIABLES] = list[h - 1];
     m.go(at + 2, h)
 }

@@ -4,7 +4,7 @@ use Prim.Native.Nat.{ℕ, _≤_}
 use mathlib.Core.Bool.{Bool, true, false, _&&_}
 use lib.Dec.{T, leb}
 use borrow.Author.Tests.{leb-true, le-leb}
-use Rattle.language.specs.Tokens.{between}
+use Rattle.language.specs.Between.{between}
 
 pub between-ok : (a b n : ℕ) → a ≤ n → n ≤ b → between a b n ≡ true
 between-ok a b n h k = rw (le-leb a n h, le-leb n b k)

@@ -7,10 +7,10 @@ use Rattle.language.specs.Tokens.{idle, tokens}
 use Rattle.language.specs.Reading.{accepted, read}
 use Rattle.language.specs.Grammar.{Lexeme, spellAll, AllFormed, marksOf, Spells, Within}
 use Rattle.language.specs.Statements.{ReadingExact, SpellingUnique}
-use Rattle.language.proofs.Marks.{tokensOf, marksIn, tokens-marks, lexemes-formed, spelled-marks}
-use Rattle.language.proofs.Parsing.{read-sound, read-complete}
-use Rattle.language.proofs.Lexing.{lexing-complete}
-use Rattle.language.proofs.Scanning.{lexing-sound}
+use Rattle.language.proofs.GrammarMarks.{tokensOf, marksIn, tokens-marks, lexemes-formed, spelled-marks}
+use Rattle.language.proofs.ReadingParsing.{read-sound, read-complete}
+use Rattle.language.proofs.TokensComplete.{lexing-complete}
+use Rattle.language.proofs.TokensSound.{lexing-sound}
 
 lexed-marks : (xs : List Lexeme) → AllFormed xs → marksIn 0 (tokens (spellAll xs) idle) ≡ marksOf 0 xs
 lexed-marks xs h = ap (marksIn 0) (lexing-complete xs 0 h) ∙ tokens-marks (marksOf 0 xs) 0 (lexemes-formed xs 0 h)

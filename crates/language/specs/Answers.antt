@@ -1,5 +1,7 @@
 -- The numbers of document 01 for refusals and endings.
 use Prim.Native.Nat.{ℕ}
+use mathlib.Core.Bool.{Bool}
+use Rattle.language.specs.Between.{between}
 use Rattle.language.specs.declared.Refusal.{Refusal}
 use Rattle.language.specs.declared.Refusal.the-variants.{NoSuchLetter, LongText, StrayMark, Deep, BadCounter, BadConstant, Unfinished, TableFull, ManyCounters, NotStanding, BadInput, BadList, BadStore, BadLine}
 use Rattle.language.specs.declared.Ending.{Ending}
@@ -21,6 +23,10 @@ refusalNumber BadInput = 11
 refusalNumber BadList = 12
 refusalNumber BadStore = 13
 refusalNumber BadLine = 14
+
+-- a number that refuses
+abbrev pub isRefusal : ℕ → Bool
+isRefusal n = between 1 14 n
 
 -- "Finished is 0." "20 to 29 end a run"
 abbrev pub endingNumber : Ending → ℕ

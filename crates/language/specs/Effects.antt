@@ -1,17 +1,20 @@
 -- What a run works on, and what each operation and predicate does to it.
-use Prim.Native.Nat.{ℕ, zero, suc, _+_, _*_, _-_, _/_, _%_}
+use Prim.Native.Nat.{ℕ, suc, _+_, _*_, _-_, _%_}
 use mathlib.Core.Bool.{Bool, true, false, cond}
-use mathlib.Core.List.{List, [], _∷_, _++_}
-use lib.IntN.{ℤ, pos, negsuc, natAbs, negℤ, _+ℤ_, _-ℤ_, _*ℤ_}
+use mathlib.Core.Option.{Option, none, some}
+use mathlib.Core.List.{List, [], _∷_}
+use lib.IntN.{ℤ, pos, natAbs, negℤ, _+ℤ_, _-ℤ_, _*ℤ_}
 use lib.Signed.{ltZ, quotZ}
 use lib.ListN.{length, getD, set, replicate}
 use lib.Seq.{paste}
 use lib.Dec.{leb, ltb, eqb}
 use Rattle.language.specs.declared.Ending.{Ending}
-use Rattle.language.specs.declared.Ending.the-variants.{ListEmpty, ListFull, Range, ZeroDivisor, NoInput, PaperOut}
-use Rattle.language.specs.Limits.{maxHeight, maxCounters, maxValue}
+use Rattle.language.specs.declared.Ending.the-variants.{ListEmpty, ListFull, Range, ZeroDivisor, NoInput, PaperOut, NoText, DeepCalls}
+use Rattle.language.specs.Limits.{maxHeight, maxCounters, maxCalls, storeCounts, writeWidth, maxVariables}
+use Rattle.language.specs.Values.{isValue}
+use Rattle.language.specs.Decimals.{padded}
 use Rattle.language.specs.Syntax.{Operator, absolute, discard, negate, copy, write, newline, input, add, subtract, multiply, divide, fetch, save}
-use Rattle.language.specs.Syntax.{Condition, negative, null, equal, Operation, operator, variable, constant, print, Predicate, condition, counter}
+use Rattle.language.specs.Syntax.{negative, null, equal, Operation, operator, variable, constant, print, Predicate, condition, counter}
 
 -- The operand stack (the list of document 01) in 64 slots with its height: "The first list place is the bottom; places above the height are 0".
 -- The inputs and how many are taken. The ten variables. The counters' counts of trues. The caller's output and how many bytes are written.
@@ -25,6 +28,12 @@ pub record State : Type 0 where
   pub output : List ℕ
   pub written : ℕ
 
+-- Before the first mark of a run with the variables v, the inputs i and the output o: "The list starts empty", "All counters are full when a run
+-- starts"
+unfoldable pub start : List ℤ → List ℤ → List ℕ → State
+start v i o =
+    record { stack = replicate maxHeight (pos 0); height = 0; inputs = i; taken = 0; variables = v; counts = replicate storeCounts 0; output = o; written = 0 }
+
 -- an operation goes on with a state, or stops the run
 pub data Effect : Type 0 where
   goes : State → Effect
@@ -35,37 +44,40 @@ pub data Verdict : Type 0 where
   answers : Bool → State → Verdict
   stalls : Ending → Verdict
 
--- "Values lie in ±999,999,999."
-unfoldable pub isValue : ℤ → Bool
-isValue z = leb (natAbs z) maxValue
-
 -- ── parts of a state ────────────────────────────────────────────────────────────────────────────
 
+-- the state with another stack and height
 abbrev pub withStack : State → List ℤ → ℕ → State
 withStack s l h =
     record { stack = l; height = h; inputs = s .inputs; taken = s .taken; variables = s .variables; counts = s .counts; output = s .output; written = s .written }
 
+-- with so many inputs taken
 abbrev pub withTaken : State → ℕ → State
 withTaken s n =
     record { stack = s .stack; height = s .height; inputs = s .inputs; taken = n; variables = s .variables; counts = s .counts; output = s .output; written = s .written }
 
+-- with other variables
 abbrev pub withVariables : State → List ℤ → State
 withVariables s v =
     record { stack = s .stack; height = s .height; inputs = s .inputs; taken = s .taken; variables = v; counts = s .counts; output = s .output; written = s .written }
 
+-- with other counters' counts
 abbrev pub withCounts : State → List ℕ → State
 withCounts s c =
     record { stack = s .stack; height = s .height; inputs = s .inputs; taken = s .taken; variables = s .variables; counts = c; output = s .output; written = s .written }
 
+-- with another output, so much of it written
 abbrev pub withOutput : State → List ℕ → ℕ → State
 withOutput s o n =
     record { stack = s .stack; height = s .height; inputs = s .inputs; taken = s .taken; variables = s .variables; counts = s .counts; output = o; written = n }
 
 -- ── the stack ───────────────────────────────────────────────────────────────────────────────────
 
+-- the value at the top of the stack
 abbrev pub top : State → ℤ
 top s = getD (s .stack) (s .height - 1) (pos 0)
 
+-- the value below the top
 abbrev pub second : State → ℤ
 second s = getD (s .stack) (s .height - 2) (pos 0)
 
@@ -108,20 +120,10 @@ inked s b = withOutput s (paste (s .output) (s .written) b (length b)) (s .writt
 abbrev pub emitted : State → List ℕ → Effect
 emitted s b = cond (leb (s .written + length b) (length (s .output))) (goes (inked s b)) (stops PaperOut)
 
--- the decimal digits of n, of which there are at most f
-unfoldable pub digits : ℕ → ℕ → List ℕ
-digits zero n = []
-digits (suc f) n = let d = digits f (n / 10) in cond (ltb n 10) ((48 + n) ∷ []) (d ++ ((48 + n % 10) ∷ []))
-
-unfoldable pub decimal : ℤ → List ℕ
-unfolding digits
-decimal (pos n) = digits 10 n
-decimal (negsuc n) = 45 ∷ digits 10 (suc n)
-
 -- "`O` writes the top right-justified in 12 columns"
 unfoldable pub column : ℤ → List ℕ
-unfolding decimal
-column v = let d = decimal v in replicate (12 - length d) 32 ++ d
+unfolding padded
+column v = padded writeWidth v
 
 -- ── operations ──────────────────────────────────────────────────────────────────────────────────
 
@@ -149,8 +151,8 @@ operated newline s = emitted s (10 ∷ [])
 unfoldable pub perform : Operation → State → Effect
 unfolding operated
 perform (operator o) s = operated o s
-perform (variable fetch k) s = pushed s (getD (s .variables) (k % 10) (pos 0))
-perform (variable save k) s = needs 1 s (goes (withVariables s (set (s .variables) (k % 10) (top s))))
+perform (variable fetch k) s = pushed s (getD (s .variables) (k % maxVariables) (pos 0))
+perform (variable save k) s = needs 1 s (goes (withVariables s (set (s .variables) (k % maxVariables) (top s))))
 perform (constant v) s = pushed s v
 perform (print b) s = emitted s b
 
@@ -167,6 +169,7 @@ counted s i m =
     (answers true (withCounts s (set (s .counts) i (getD (s .counts) i 0 + 1))))
     (answers false (withCounts s (set (s .counts) i 0)))
 
+-- a predicate that needs n values and answers t
 abbrev pub asked : ℕ → State → Bool → Verdict
 asked n s t = cond (ltb (s .height) n) (stalls ListEmpty) (answers t s)
 
@@ -176,3 +179,11 @@ ask l (condition negative) s = asked 1 s (ltZ (top s) (pos 0))
 ask l (condition null) s = asked 1 s (eqb (natAbs (top s)) 0)
 ask l (condition equal) s = asked 2 s (eqb (natAbs (second s -ℤ top s)) 0)
 ask l (counter m k) s = counted s (countIndex l k) m
+
+-- ── calls ───────────────────────────────────────────────────────────────────────────────────────
+
+-- The call of what stands under a letter, if anything does, with d calls open: k enters it, or h has what stops it. "no text: call of a cleared
+-- letter", "deep calls: a 101st nested call", "27 before 28". Meaning and machine share this one account.
+unfoldable pub onCall : {A B : Type 0} → Option A → ℕ → (Ending → B) → (A → B) → B
+onCall none d h k = h NoText
+onCall (some v) d h k = cond (ltb d maxCalls) (k v) (h DeepCalls)

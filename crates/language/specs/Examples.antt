@@ -1,37 +1,37 @@
--- Worked examples, from the bytes of the texts on: the starred ones of document 01 as one list, and a second list for what every definition of a
--- run shares: effects, the order of stops, and what a stopped run leaves.
+-- Worked examples, from the bytes of the texts on: the starred ones of document 01 as one list, and a second list for what meaning and machine
+-- share: effects, the order of stops, and what a stopped run leaves.
 use mathlib.Core.Path.{_≡_}
-use Prim.Native.Nat.{ℕ}
+use Prim.Native.Nat.{ℕ, suc, _-_}
 use Prim.Native.Char.{Char, code}
 use Prim.Native.String.{String, [] as []ˢ, _∷_ as _∷ˢ_}
-use mathlib.Core.Bool.{Bool, true, false}
+use mathlib.Core.Bool.{Bool, true, false, cond}
+use mathlib.Core.Option.{Option, none, some}
 use mathlib.Core.List.{List, [], _∷_, map}
 use lib.IntN.{ℤ, pos, negℤ}
 use lib.ListN.{take, replicate}
+use lib.Dec.{eqb}
+use Rattle.language.specs.declared.Table.{Table}
 use Rattle.language.specs.declared.Refusal.{Refusal}
 use Rattle.language.specs.declared.Refusal.the-variants.{StrayMark, Deep, BadCounter, BadConstant, Unfinished}
-use Rattle.language.specs.Reading.{Reading, refused, accepted, read}
-use Rattle.language.specs.Layout.{layout}
-use Rattle.language.specs.Book.{Call, defines, withdraws, runs, Reply, freshBook}
-use Rattle.language.specs.Store.{freshStore}
-use Rattle.language.specs.History.{storeAnswers, bookAnswers}
+use Rattle.language.specs.declared.Ending.the-variants.{NoText}
+use Rattle.language.specs.Answers.{endingNumber}
+use Rattle.language.specs.Limits.{maxVariables}
+use Rattle.language.specs.Letters.{letterIndex}
+use Rattle.language.specs.Syntax.{Expr}
+use Rattle.language.specs.Reading.{Reading, refused, accepted, read, exprOf}
+use Rattle.language.specs.Layout.{layout, cleared, codeStart}
+use Rattle.language.specs.Effects.{State, start}
+use Rattle.language.specs.Meaning.{Outcome, ended, stopped, meaning}
+use Rattle.language.specs.Machine.{Decoded, decode, arrive, run}
 
 -- the bytes of a text in plain characters
 abbrev pub bytes : String → List ℕ
 bytes []ˢ = []
 bytes (c ∷ˢ s) = code c ∷ bytes s
 
--- a call: define, withdraw, and run with an allowance, inputs and room for so many bytes of output
-abbrev D : Char → String → Call
-D l t = defines (code l) (bytes t)
+-- ── a run of texts ──────────────────────────────────────────────────────────────────────────────
 
-abbrev X : Char → Call
-X l = withdraws (code l)
-
-abbrev R : Char → ℕ → List ℤ → ℕ → Call
-R l n i room = runs (code l) n i (replicate 64 (pos 7)) (replicate room 42)
-
--- an answer's number, truth, steps, values with the bottom first, and written bytes
+-- A run's number, truth, steps, values with the bottom first, and written bytes.
 pub record Result : Type 0 where
   pub number : ℕ
   pub truth : Bool
@@ -39,12 +39,12 @@ pub record Result : Type 0 where
   pub values : List ℤ
   pub printed : List ℕ
 
-abbrev pub resultOf : Reply → Result
-resultOf r =
-    record { number = r .number; truth = r .truth; steps = r .steps; values = take (r .height) (r .list); printed = take (r .written) (r .output) }
-
-abbrev plain : ℕ → Result
-plain n = record { number = n; truth = false; steps = 0; values = []; printed = [] }
+-- what an allowance of n came to
+abbrev pub resultOf : ℕ → Outcome → Result
+resultOf n (ended t s r) =
+    record { number = 0; truth = t; steps = n - r; values = take (s .height) (s .stack); printed = take (s .written) (s .output) }
+resultOf n (stopped e s r) =
+    record { number = endingNumber e; truth = false; steps = n - r; values = take (s .height) (s .stack); printed = take (s .written) (s .output) }
 
 abbrev ends : Bool → ℕ → List ℤ → Result
 ends t n l = record { number = 0; truth = t; steps = n; values = l; printed = [] }
@@ -55,12 +55,65 @@ stops k n l = record { number = k; truth = false; steps = n; values = l; printed
 abbrev prints : ℕ → String → Result
 prints n s = record { number = 0; truth = true; steps = n; values = []; printed = bytes s }
 
--- a text's used cells; a text's refusal; the answers to calls from the fresh store, the table machine's and the nested meaning's
+-- texts under letters, and the letter, allowance, inputs and room for output bytes of a run
+pub record Trial : Type 0 where
+  pub texts : List (Char × String)
+  pub letter : Char
+  pub allowance : ℕ
+  pub inputs : List ℤ
+  pub room : ℕ
+
+-- the expression of letter a
+unfoldable pub textAt : List (Char × String) → ℕ → Option Expr
+unfolding read exprOf
+textAt [] a = none
+textAt (t ∷ ts) a = cond (eqb (letterIndex (code (t .0))) a) (exprOf (read (bytes (t .1)))) (textAt ts a)
+
+-- its table, and whether it stands
+abbrev pub tableOf : Option Expr → Table
+tableOf none = cleared
+tableOf (some w) = layout w
+
+-- a text is there
+abbrev pub isSome : Option Expr → Bool
+isSome none = false
+isSome (some w) = true
+
+-- the state in which a trial starts
+abbrev pub startOf : Trial → State
+startOf x = start (replicate maxVariables (pos 0)) (x .inputs) (replicate (x .room) 42)
+
+-- what the nested meaning comes to, and the table machine over the texts' tables
+abbrev pub obeyedBy : Trial → Option Expr → Outcome
+obeyedBy x none = stopped NoText (startOf x) (x .allowance)
+obeyedBy x (some w) = meaning (textAt (x .texts)) (suc (x .allowance)) (letterIndex (code (x .letter))) w 0 (startOf x) (x .allowance)
+
+-- what the nested meaning gives
+abbrev pub meant : Trial → Outcome
+meant x = obeyedBy x (textAt (x .texts) (letterIndex (code (x .letter))))
+
+-- the cells of the texts' tables, decoded
+abbrev pub decodedIn : Trial → ℕ → ℕ → Decoded
+decodedIn x a q = decode (tableOf (textAt (x .texts) a)) q
+
+-- the letters that have a text
+abbrev pub standsIn : Trial → ℕ → Bool
+standsIn x a = isSome (textAt (x .texts) a)
+
+-- what the table machine gives
+abbrev pub machined : Trial → Outcome
+machined x =
+    run (decodedIn x) (standsIn x) (x .allowance) (arrive (decodedIn x) (standsIn x) [] (letterIndex (code (x .letter))) codeStart) (startOf x)
+
+-- ── examples ────────────────────────────────────────────────────────────────────────────────────
+
+-- a text's used cells; a text's refusal; a run's result, by the nested meaning and by the table machine
 pub data Example : Type 0 where
   laidOut : String → List ℤ → Example
   refusedAs : String → Refusal → Example
-  session : List Call → List Result → Example
+  gives : Trial → Result → Example
 
+-- the used cells of an accepted text
 abbrev pub usedOf : Reading → List ℤ
 usedOf (refused r) = []
 usedOf (accepted w) = take (layout w .used) (layout w .cells)
@@ -69,27 +122,34 @@ usedOf (accepted w) = take (layout w .used) (layout w .cells)
 pub data Given : Type 0 where
   table : List ℤ → Given
   reading : Reading → Given
-  answers : List Result → List Result → Given
+  results : Result → Result → Given
 
+-- what an example gives
 abbrev pub given : Example → Given
 given (laidOut t c) = table (usedOf (read (bytes t)))
 given (refusedAs t r) = reading (read (bytes t))
-given (session cs rs) = answers (map resultOf (bookAnswers freshBook cs)) (map resultOf (storeAnswers freshStore cs))
+given (gives x r) = results (resultOf (x .allowance) (meant x)) (resultOf (x .allowance) (machined x))
 
+-- what it should give
 abbrev pub due : Example → Given
 due (laidOut t c) = table c
 due (refusedAs t r) = reading (refused r)
-due (session cs rs) = answers rs rs
+due (gives x r) = results r r
 
+-- every example gives what it should
 abbrev pub Hold : List Example → Type 0
 Hold es = map given es ≡ map due es
 
--- a text run once with an allowance
+-- a text run once with an allowance; with room for output besides
+abbrev printing : String → ℕ → ℕ → Result → Example
+printing t n room r = gives (record { texts = ("t", t) ∷ []; letter = "t"; allowance = n; inputs = []; room = room }) r
+
 abbrev once : String → ℕ → Result → Example
-once t n r = session (D "t" t ∷ R "t" n [] 0 ∷ []) (plain 0 ∷ r ∷ [])
+once t n r = printing t n 0 r
 
 -- ── document 01, "Examples", the starred ones ───────────────────────────────────────────────────
 
+-- the starred examples of document 01
 abbrev pub starred : List Example
 starred =
     laidOut "()" (pos 2000 ∷ pos 0 ∷ pos 1 ∷ [])
@@ -107,22 +167,19 @@ starred =
     ∷ once "('/5'N)" 1000 (ends true 2 (pos 5 ∷ []))
     ∷ once "('/0'($5$'/1'+:;);)" 1000 (ends true 24 (pos 5 ∷ []))
     ∷ once "('/0'('/1'+$5$:;);)" 1000 (ends true 26 (pos 6 ∷ []))
-    ∷ session (D "d" "(0L'/1';'/1'-d'/2'*;)" ∷ D "m" "(Id;)" ∷ R "m" 1000 (pos 3 ∷ []) 0 ∷ [])
-    (plain 0 ∷ plain 0 ∷ ends true 28 (pos 8 ∷ []) ∷ [])
+    ∷ gives (record { texts = ("d", "(0L'/1';'/1'-d'/2'*;)") ∷ ("m", "(Id;)") ∷ []; letter = "m"; allowance = 1000; inputs = pos 3 ∷ []; room = 0 })
+    (ends true 28 (pos 8 ∷ []))
     ∷ once "(((((((((())))))))))" 1000 (ends true 5 [])
     ∷ refusedAs "((((((((((()))))))))))" Deep
     ∷ []
 
--- ── what all definitions of a run share ─────────────────────────────────────────────────────────
+-- ── what meaning and machine share ──────────────────────────────────────────────────────────────
 
+-- examples of what both accounts of a run take from one place
 abbrev pub shared : List Example
 shared =
-    -- a withdrawn letter pays no more through another letter
-    session (D "p" "('/5';)" ∷ D "q" "(p;)" ∷ R "q" 9 [] 0 ∷ X "p" ∷ R "q" 9 [] 0 ∷ R "p" 9 [] 0 ∷ X "p" ∷ X "1" ∷ [])
-    (plain 0 ∷ plain 0 ∷ ends true 4 (pos 5 ∷ []) ∷ plain 0 ∷ stops 27 0 [] ∷ plain 10 ∷ plain 10 ∷ plain 1 ∷ [])
-    -- a finished run keeps its variables, a stopped one does not
-    ∷ session (D "s" "(IS1L;)" ∷ D "t" "('/9'S1:)" ∷ D "f" "(F1;)" ∷ R "s" 9 (pos 7 ∷ []) 0 ∷ R "t" 4 [] 0 ∷ R "f" 9 [] 0 ∷ [])
-    (plain 0 ∷ plain 0 ∷ plain 0 ∷ ends true 4 [] ∷ stops 20 4 (pos 9 ∷ pos 9 ∷ []) ∷ ends true 2 (pos 7 ∷ []) ∷ [])
+    -- a letter that does not stand
+    gives (record { texts = ("q", "(p;)") ∷ []; letter = "q"; allowance = 9; inputs = []; room = 0 }) (stops 27 0 [])
     -- the allowance met exactly at the finish is no spent
     ∷ once "('/5'N)" 2 (ends true 2 (pos 5 ∷ []))
     ∷ once "('/5'N)" 1 (stops 20 1 (pos 5 ∷ []))
@@ -143,16 +200,13 @@ shared =
     ∷ once "('/1'($63$P:;)P;)" 999 (stops 22 192 (replicate 64 (pos 1)))
     ∷ once "(P;)" 9 (stops 21 0 [])
     -- bytes in 12 columns; a print; nothing is written where not all fits
-    ∷ session (D "o" "('/-5'O''ab'XL;)" ∷ R "o" 99 [] 15 ∷ R "o" 99 [] 14 ∷ R "o" 99 [] 11 ∷ [])
-    (plain 0 ∷ prints 6 "          -5ab\n"
-    ∷ record { number = 26; truth = false; steps = 3; values = negℤ (pos 5) ∷ []; printed = bytes "          -5ab" }
-    ∷ stops 26 1 (negℤ (pos 5) ∷ []) ∷ [])
+    ∷ printing "('/-5'O''ab'XL;)" 99 15 (prints 6 "          -5ab\n")
+    ∷ printing "('/-5'O''ab'XL;)" 99 14
+    (record { number = 26; truth = false; steps = 3; values = negℤ (pos 5) ∷ []; printed = bytes "          -5ab" })
+    ∷ printing "('/-5'O''ab'XL;)" 99 11 (stops 26 1 (negℤ (pos 5) ∷ []))
     -- a counter goes on from where a recursive entry left it
-    ∷ session (D "c" "('/1'$3$c;;)" ∷ R "c" 99 [] 0 ∷ R "c" 99 [] 0 ∷ [])
-    (plain 0 ∷ ends true 15 (pos 1 ∷ pos 1 ∷ pos 1 ∷ pos 1 ∷ []) ∷ ends true 15 (pos 1 ∷ pos 1 ∷ pos 1 ∷ pos 1 ∷ []) ∷ [])
-    -- lawful inputs and 64 places are asked after the letter stands
-    ∷ session (D "a" "(;)" ∷ runs 98 9 (pos 1000000000 ∷ []) [] [] ∷ runs 97 9 (pos 1000000000 ∷ []) [] [] ∷ runs 97 9 [] [] [] ∷ runs 123 9 [] [] [] ∷ [])
-    (plain 0 ∷ plain 10 ∷ plain 11 ∷ plain 12 ∷ plain 1 ∷ [])
+    ∷ gives (record { texts = ("c", "('/1'$3$c;;)") ∷ []; letter = "c"; allowance = 99; inputs = []; room = 0 })
+    (ends true 15 (pos 1 ∷ pos 1 ∷ pos 1 ∷ pos 1 ∷ []))
     -- first faults, left to right
     ∷ refusedAs "" Unfinished
     ∷ refusedAs "($0$)" BadCounter

@@ -1,13 +1,14 @@
 -- The written grammar as a relation: which bytes spell which expression, and the limits. No order of reading and no fault is in it.
 use mathlib.Core.Path.{_≡_}
-use Prim.Native.Nat.{ℕ, zero, suc, _+_, _*_, _-_, _≤_, _<_, max}
+use Prim.Native.Nat.{ℕ, suc, _+_, _*_, _-_, _≤_, _<_, max}
 use mathlib.Core.Bool.{Bool, true, false}
 use mathlib.Core.List.{List, [], _∷_, _++_}
 use lib.ListN.{length}
 use Rattle.language.specs.Limits.{maxText, maxLevels, maxCells, maxCounters}
+use Rattle.language.specs.Letters.{letterByte}
 use Rattle.language.specs.Syntax.{Operator, operatorByte, Access, accessByte, Condition, conditionByte, Operation, operator, variable, constant, print}
 use Rattle.language.specs.Syntax.{Predicate, condition, counter, Expr, close, semi, colon, operate, test, call, inner}
-use Rattle.language.specs.Tokens.{commentByte, printByte, Form, counterForm, constantForm, mostDigits, closingByte, signed, digitCell}
+use Rattle.language.specs.Tokens.{commentByte, printByte, Form, counterForm, constantForm, mostDigits, signed, digitCell}
 use Rattle.language.specs.Layout.{usedCells}
 
 -- ── lexemes: marks and what is skipped between them, as they are written ────────────────────────
@@ -23,10 +24,12 @@ pub data Lexeme : Type 0 where
   counter-of : List ℕ → Lexeme
   constant-of : Bool → List ℕ → Lexeme
 
+-- digits as bytes, and then r
 abbrev pub digitBytes : List ℕ → List ℕ → List ℕ
 digitBytes [] r = r
 digitBytes (d ∷ l) r = (48 + d) ∷ digitBytes l r
 
+-- a `-`, if there is one, and then r
 abbrev pub minusSign : Bool → List ℕ → List ℕ
 minusSign true r = 45 ∷ r
 minusSign false r = r
@@ -45,21 +48,24 @@ spell point r = 46 ∷ r
 spell (operator-of o) r = operatorByte o ∷ r
 spell (variable-of a d) r = accessByte a ∷ (48 + d) ∷ r
 spell (condition-of c) r = conditionByte c ∷ r
-spell (call-of a) r = (97 + a) ∷ r
+spell (call-of a) r = letterByte a ∷ r
 spell (counter-of ds) r = 36 ∷ digitBytes ds (36 ∷ r)
 spell (constant-of s ds) r = 39 ∷ 47 ∷ minusSign s (digitBytes ds (39 ∷ r))
 spell (print-of b) r = 39 ∷ 39 ∷ b ++ 39 ∷ r
 
+-- the bytes of a list of lexemes
 abbrev pub spellAll : List Lexeme → List ℕ
 spellAll [] = []
 spellAll (x ∷ xs) = spell x (spellAll xs)
 
 -- ── well-formed lexemes ─────────────────────────────────────────────────────────────────────────
 
+-- every byte of a list passes a test
 abbrev pub AllBytes : (ℕ → Bool) → List ℕ → Type 0
 AllBytes p [] = Unit {0}
 AllBytes p (b ∷ l) = (p b ≡ true) × AllBytes p l
 
+-- every byte of a list is a digit
 abbrev pub Digits : List ℕ → Type 0
 Digits [] = Unit {0}
 Digits (d ∷ l) = (d < 10) × Digits l
@@ -73,6 +79,7 @@ valueFrom v (d ∷ l) = valueFrom (10 * v + d) l
 abbrev pub Number : Form → List ℕ → Type 0
 Number f ds = Digits ds × (1 ≤ length ds) × (length ds ≤ mostDigits f)
 
+-- the bytes and numbers of a lexeme keep its form
 abbrev pub Formed : Lexeme → Type 0
 Formed blank = Unit {0}
 Formed newline = Unit {0}
@@ -91,12 +98,14 @@ Formed (counter-of ds) = Number counterForm ds × (1 ≤ valueFrom 0 ds)
 Formed (constant-of s ds) = Number (constantForm s) ds
 Formed (print-of b) = AllBytes printByte b
 
+-- so do those of all lexemes
 abbrev pub AllFormed : List Lexeme → Type 0
 AllFormed [] = Unit {0}
 AllFormed (x ∷ xs) = Formed x × AllFormed xs
 
 -- ── marks ───────────────────────────────────────────────────────────────────────────────────────
 
+-- a mark of a text, once what is skipped is gone
 pub data Mark : Type 0 where
   mOpen mClose mSemi mColon : Mark
   mOperation : Operation → Mark
@@ -142,6 +151,7 @@ pub record Spells (t : List ℕ) (w : Expr) : Type 0 where
 
 -- ── limits ──────────────────────────────────────────────────────────────────────────────────────
 
+-- how deep an expression nests, itself counted
 abbrev pub depth : Expr → ℕ
 depth close = 1
 depth (semi e) = depth e
@@ -151,10 +161,12 @@ depth (test p e) = depth e
 depth (call a e) = depth e
 depth (inner f e) = max (suc (depth f)) (depth e)
 
+-- 1 for a counter, 0 for another predicate
 abbrev pub isCounting : Predicate → ℕ
 isCounting (condition c) = 0
 isCounting (counter m k) = 1
 
+-- how many counters an expression has
 abbrev pub counters : Expr → ℕ
 counters close = 0
 counters (semi e) = counters e
@@ -164,6 +176,7 @@ counters (test p e) = isCounting p + counters e
 counters (call a e) = counters e
 counters (inner f e) = counters f + counters e
 
+-- a text and its expression keep the limits
 pub record Within (t : List ℕ) (w : Expr) : Type 0 where
   pub text : length t ≤ maxText
   pub levels : depth w ≤ maxLevels

@@ -1,11 +1,13 @@
 -- The code table of an expression, cell by cell.
-use Prim.Native.Nat.{ℕ, zero, suc, _+_, _-_}
+use Prim.Native.Nat.{ℕ, zero, suc, _-_}
 use mathlib.Core.List.{List, [], _∷_}
 use lib.IntN.{ℤ, pos, negℤ}
 use lib.ListN.{length, replicate}
 use Rattle.language.specs.declared.Table.{Table}
 use Rattle.language.specs.Limits.{maxCells}
-use Rattle.language.specs.Syntax.{operatorByte, accessByte, conditionByte, Operation, operator, variable, constant, print}
+use Rattle.language.specs.Letters.{letterByte}
+use Rattle.language.specs.Syntax.{operatorByte, accessByte, conditionByte, counterCode, constantCode, printCode}
+use Rattle.language.specs.Syntax.{Operation, operator, variable, constant, print}
 use Rattle.language.specs.Syntax.{Predicate, condition, counter, Expr, close, semi, colon, operate, test, call, inner}
 
 -- ── positions ───────────────────────────────────────────────────────────────────────────────────
@@ -22,10 +24,12 @@ afterOperation (variable a k) q = suc (suc q)
 afterOperation (constant v) q = suc (suc q)
 afterOperation (print b) q = forward (length b) (suc (suc q))
 
+-- the cell after a predicate
 abbrev pub afterPredicate : Predicate → ℕ → ℕ
 afterPredicate (condition c) q = suc (suc q)
 afterPredicate (counter m k) q = suc (suc (suc (suc q)))
 
+-- the cell after a call
 abbrev pub afterCall : ℕ → ℕ
 afterCall q = suc (suc q)
 
@@ -56,6 +60,7 @@ falseExit (inner f e) q = falseExit e (afterExpr f q)
 abbrev pub opcode : ℕ → ℤ
 opcode b = negℤ (pos b)
 
+-- the cells of bytes, and then r
 abbrev pub byteCells : List ℕ → List ℤ → List ℤ
 byteCells [] r = r
 byteCells (b ∷ l) r = pos b ∷ byteCells l r
@@ -64,13 +69,13 @@ byteCells (b ∷ l) r = pos b ∷ byteCells l r
 abbrev pub operationCells : Operation → List ℤ → List ℤ
 operationCells (operator o) r = opcode (operatorByte o) ∷ r
 operationCells (variable a k) r = opcode (accessByte a) ∷ pos k ∷ r
-operationCells (constant v) r = opcode 175 ∷ v ∷ r
-operationCells (print b) r = opcode 167 ∷ pos (length b) ∷ byteCells b r
+operationCells (constant v) r = opcode constantCode ∷ v ∷ r
+operationCells (print b) r = opcode printCode ∷ pos (length b) ∷ byteCells b r
 
 -- a predicate's cells with its false exit f; a counter's: "-36, -n, its order in the text from 0, false"
 abbrev pub predicateCells : Predicate → ℕ → List ℤ → List ℤ
 predicateCells (condition c) f r = opcode (conditionByte c) ∷ pos f ∷ r
-predicateCells (counter m k) f r = opcode 36 ∷ opcode (suc m) ∷ pos k ∷ pos f ∷ r
+predicateCells (counter m k) f r = opcode counterCode ∷ opcode (suc m) ∷ pos k ∷ pos f ∷ r
 
 -- The cells of e, which starts at cell q, and then r. The first cell of its expression is h ("the cell after its `(`"), the cell after its `)`
 -- cell is x ("the cell after its expression's `)` cell"), and its `)` cell holds c ("the enclosing expression's false").
@@ -80,22 +85,30 @@ exprCells (semi e) h x c q r = pos x ∷ exprCells e h x c (suc q) r
 exprCells (colon e) h x c q r = pos h ∷ exprCells e h x c (suc q) r
 exprCells (operate o e) h x c q r = operationCells o (exprCells e h x c (afterOperation o q) r)
 exprCells (test p e) h x c q r = predicateCells p (falseExit e (afterPredicate p q)) (exprCells e h x c (afterPredicate p q) r)
-exprCells (call a e) h x c q r = opcode (97 + a) ∷ pos (falseExit e (afterCall q)) ∷ exprCells e h x c (afterCall q) r
+exprCells (call a e) h x c q r = opcode (letterByte a) ∷ pos (falseExit e (afterCall q)) ∷ exprCells e h x c (afterCall q) r
 exprCells (inner f e) h x c q r =
     exprCells f q (afterExpr f q) (falseExit e (afterExpr f q)) q (exprCells e h x c (afterExpr f q) r)
 
 -- ── tables ──────────────────────────────────────────────────────────────────────────────────────
 
+-- "Cell 1 holds 2000": what every table begins with
+abbrev pub firstCell : ℕ
+firstCell = 2000
+
+-- "Code starts at cell 2."
+abbrev pub codeStart : ℕ
+codeStart = 2
+
 -- the used-cell count of a text: "last `)`: 0, then a last cell holding 1"
 abbrev pub usedCells : Expr → ℕ
-usedCells w = afterExpr w 2
+usedCells w = afterExpr w codeStart
 
 -- "Cell 1 holds 2000 and no run reads it. Code starts at cell 2." "The other cells of the letter's 250 are 0."
 abbrev pub layout : Expr → Table
 layout w =
     record {
       used = usedCells w;
-      cells = pos 2000 ∷ exprCells w 2 (usedCells w) 0 2 (pos 1 ∷ replicate (maxCells - usedCells w) (pos 0));
+      cells = pos firstCell ∷ exprCells w codeStart (usedCells w) 0 codeStart (pos 1 ∷ replicate (maxCells - usedCells w) (pos 0));
     }
 
 -- "Withdraw clears it to 0." "a cleared letter is one whose count is 0"

@@ -1,5 +1,5 @@
 -- The limits of document 01. Those of a table are also the associated constants of `Table` in src/lib.rt.
-use Prim.Native.Nat.{ℕ}
+use Prim.Native.Nat.{ℕ, _*_}
 
 -- "A text has at most 256 bytes."
 abbrev pub maxText : ℕ
@@ -25,6 +25,30 @@ maxCalls = 100
 abbrev pub maxHeight : ℕ
 maxHeight = 64
 
+-- a counter's number: "1 to 4 digits", "an n outside 1 to 9999"
+abbrev pub maxLimit : ℕ
+maxLimit = 9999
+
 -- "Values lie in ±999,999,999."
 abbrev pub maxValue : ℕ
 maxValue = 999999999
+
+-- "A store holds 26 letters' tables with their used-cell counts, and ten variables"
+abbrev pub maxLetters : ℕ
+maxLetters = 26
+
+-- "ten variables"
+abbrev pub maxVariables : ℕ
+maxVariables = 10
+
+-- the cells of all letters' tables, and the counts of all letters' counters
+abbrev pub storeCells : ℕ
+storeCells = maxLetters * maxCells
+
+-- the counts of all letters' counters
+abbrev pub storeCounts : ℕ
+storeCounts = maxLetters * maxCounters
+
+-- "`O` writes the top right-justified in 12 columns"
+abbrev pub writeWidth : ℕ
+writeWidth = 12

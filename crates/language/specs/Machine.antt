@@ -1,18 +1,23 @@
 -- The table machine: what the cells of a table say, and how a run goes over the tables of a store. Total over any cells.
-use Prim.Native.Nat.{ℕ, zero, suc, _-_}
+use Prim.Native.Nat.{ℕ, zero, suc}
 use mathlib.Core.Bool.{Bool, true, false, cond}
+use mathlib.Core.Option.{Option, none, some}
 use mathlib.Core.List.{List, [], _∷_, _++_, map}
 use lib.IntN.{ℤ, pos, negsuc}
 use lib.ListN.{length, getD}
 use lib.Dec.{ltb, eqb}
 use Rattle.language.specs.declared.Table.{Table}
-use Rattle.language.specs.declared.Ending.the-variants.{Spent, NoText, DeepCalls, Damaged}
-use Rattle.language.specs.Limits.{maxCounters, maxCalls}
+use Rattle.language.specs.declared.Ending.the-variants.{Spent, Damaged}
+use Rattle.language.specs.Limits.{maxCounters, maxLimit}
 use Rattle.language.specs.Syntax.{Operator, operators, operatorByte, Access, accesses, accessByte, Condition, conditions, conditionByte}
-use Rattle.language.specs.Syntax.{Operation, operator, variable, constant, print, Predicate, condition, counter}
-use Rattle.language.specs.Tokens.{between, lookup, printByte}
-use Rattle.language.specs.Layout.{forward}
-use Rattle.language.specs.Effects.{State, Effect, goes, stops, Verdict, answers, stalls, isValue, perform, ask}
+use Rattle.language.specs.Syntax.{counterCode, constantCode, printCode, Operation, operator, variable, constant, print, Predicate, condition, counter}
+use Rattle.language.specs.Between.{between}
+use Rattle.language.specs.Lookup.{lookup}
+use Rattle.language.specs.Letters.{isLetter, letterIndex}
+use Rattle.language.specs.Values.{isValue}
+use Rattle.language.specs.Tokens.{printByte}
+use Rattle.language.specs.Layout.{forward, codeStart}
+use Rattle.language.specs.Effects.{State, Effect, goes, stops, Verdict, answers, stalls, perform, ask, onCall}
 use Rattle.language.specs.Meaning.{Outcome, ended, stopped}
 
 -- ── decoding ────────────────────────────────────────────────────────────────────────────────────
@@ -38,20 +43,23 @@ pub data Kind : Type 0 where
   isCondition : Condition → Kind
   isCall : ℕ → Kind
 
+-- the codes of marks other than calls
 abbrev pub kinds : List (ℕ × Kind)
 kinds =
-    (175, isConstant) ∷ (167, isPrint) ∷ (36, isCounter)
+    (constantCode, isConstant) ∷ (printCode, isPrint) ∷ (counterCode, isCounter)
     ∷ map (λ o. (operatorByte o, isOperator o)) operators
     ++ map (λ a. (accessByte a, isVariable a)) accesses
     ++ map (λ c. (conditionByte c, isCondition c)) conditions
 
+-- a code's kind
 unfoldable pub kind : ℕ → Kind
-kind b = cond (between 97 122 b) (isCall (b - 97)) (lookup kinds isNone b)
+kind b = cond (isLetter b) (isCall (letterIndex b)) (lookup kinds isNone b)
 
 -- cell q, the first being 1
 abbrev pub cell : Table → ℕ → ℤ
 cell t q = getD (pos 0 ∷ t .cells) q (pos 0)
 
+-- a test that damage fails
 unfoldable pub sound : Bool → Decoded → Decoded
 sound true d = d
 sound false d = damaged
@@ -61,6 +69,7 @@ unfoldable pub natural : ℤ → (ℕ → Decoded) → Decoded
 natural (pos n) k = k n
 natural (negsuc n) k = damaged
 
+-- a cell that is to hold a number below 0: -(n + 1) goes on with n
 unfoldable pub minus : ℤ → (ℕ → Decoded) → Decoded
 minus (pos n) k = damaged
 minus (negsuc n) k = k n
@@ -95,7 +104,7 @@ mark t q isPrint =
 mark t q (isCondition c) = room t (suc (suc q)) (exitAt t (suc q) (λ f. testAt (condition c) (suc (suc q)) f))
 mark t q isCounter =
     room t (suc (suc (suc (suc q))))
-    (minus (cell t (suc q)) (λ m. sound (ltb m 9999)
+    (minus (cell t (suc q)) (λ m. sound (ltb m maxLimit)
     (natural (cell t (suc (suc q))) (λ k. sound (ltb k maxCounters)
     (exitAt t (suc (suc (suc q))) (λ f. testAt (counter m k) (suc (suc (suc (suc q)))) f))))))
 mark t q (isCall a) = room t (suc (suc q)) (exitAt t (suc q) (λ f. callAt a (suc (suc q)) f))
@@ -134,10 +143,12 @@ pub data Due : Type 0 where
   broken : Due
   due : ℕ → Instruction → List Frame → Due
 
+-- the cell after a mark where it is true, its false exit where it is false
 unfoldable pub pick : Bool → ℕ → ℕ → ℕ
 pick true n f = n
 pick false n f = f
 
+-- what is due at a decoded cell of the letter l; its last cell goes back
 unfoldable pub arrived : Decoded → ℕ → List Frame → (Unit {0} → Due) → Due
 arrived last l fr back = back tt
 arrived damaged l fr back = broken
@@ -148,15 +159,15 @@ unfoldable pub onEffect : Effect → State → ℕ → (State → Outcome) → O
 onEffect (goes s′) s r k = k s′
 onEffect (stops e) s r k = stopped e s r
 
+-- on with what a predicate answered; where it stops, the state and the steps left are those before it
 unfoldable pub onVerdict : Verdict → State → ℕ → (Bool → State → Outcome) → Outcome
 onVerdict (answers t s′) s r k = k t s′
 onVerdict (stalls e) s r k = stopped e s r
 
--- "no text: call of a cleared letter", "deep calls: a 101st nested call", "27 before 28"
-unfoldable pub onCall : Bool → Bool → State → ℕ → (Unit {0} → Outcome) → Outcome
-onCall false u s r k = stopped NoText s r
-onCall true false s r k = stopped DeepCalls s r
-onCall true true s r k = k tt
+-- a letter that stands, as what a call enters
+abbrev pub present : Bool → Option (Unit {0})
+present true = some tt
+present false = none
 
 -- over a store whose cells decode so, where these letters stand
 module _ (at : ℕ → ℕ → Decoded) (stands : ℕ → Bool) where
@@ -179,7 +190,8 @@ module _ (at : ℕ → ℕ → Decoded) (stands : ℕ → Bool) where
   turn r go l fr (operateAt o n) s = onEffect (perform o s) s (suc r) (λ s′. go (arrive fr l n) s′)
   turn r go l fr (testAt p n f) s = onVerdict (ask l p s) s (suc r) (λ t s′. go (arrive fr l (pick t n f)) s′)
   turn r go l fr (callAt a n f) s =
-      onCall (stands a) (ltb (length fr) maxCalls) s (suc r) (λ _. go (arrive (record { letter = l; next = n; exit = f } ∷ fr) a 2) s)
+      onCall (present (stands a)) (length fr) (λ e. stopped e s (suc r))
+      (λ _. go (arrive (record { letter = l; next = n; exit = f } ∷ fr) a codeStart) s)
 
   -- With r steps left: "Where several stops fit: 29, 20, then for that mark .."
   unfoldable pub run : ℕ → Due → State → Outcome

@@ -1,13 +1,11 @@
 -- The nested meaning: a definitional interpreter of expressions.
 use Prim.Native.Nat.{ℕ, zero, suc}
 use mathlib.Core.Bool.{Bool, true, false}
-use mathlib.Core.Option.{Option, none, some}
-use lib.Dec.{ltb}
+use mathlib.Core.Option.{Option}
 use Rattle.language.specs.declared.Ending.{Ending}
-use Rattle.language.specs.declared.Ending.the-variants.{Spent, NoText, DeepCalls}
-use Rattle.language.specs.Limits.{maxCalls}
+use Rattle.language.specs.declared.Ending.the-variants.{Spent}
 use Rattle.language.specs.Syntax.{Expr, close, semi, colon, operate, test, call, inner}
-use Rattle.language.specs.Effects.{State, goes, stops, answers, stalls, perform, ask}
+use Rattle.language.specs.Effects.{State, goes, stops, answers, stalls, perform, ask, onCall}
 
 -- What an expression or a run comes to: its truth, or what stopped it; with the state and the steps that are left of the allowance then.
 pub data Outcome : Type 0 where
@@ -18,7 +16,7 @@ pub data Outcome : Type 0 where
 module _ (texts : ℕ → Option Expr) (again : ℕ → Expr → ℕ → State → ℕ → Outcome) (l d : ℕ) where
   unfoldable mutual
     -- Obey the rest e of the expression w, with r steps left. "spent: steps equal the allowance and another step is due." "Reaching `;` ends
-    -- true, `:` starts the expression again, `)` ends false." "A mark that stops a run changes nothing and is not counted." "27 before 28"
+    -- true, `:` starts the expression again, `)` ends false." "A mark that stops a run changes nothing and is not counted."
     pub obey : Expr → Expr → State → ℕ → Outcome
     obey close w s zero = stopped Spent s zero
     obey close w s (suc r) = ended false s r
@@ -33,17 +31,8 @@ module _ (texts : ℕ → Option Expr) (again : ℕ → Expr → ℕ → State �
         elim (ask l p s) [ answers true s′ ↦ obey e w s′ r | answers false s′ ↦ skip e w s′ r | stalls k ↦ stopped k s (suc r) ]
     obey (call a e) w s zero = stopped Spent s zero
     obey (call a e) w s (suc r) =
-        elim (texts a) [
-          | none ↦ stopped NoText s (suc r)
-          | some v ↦ elim (ltb d maxCalls) [
-            | false ↦ stopped DeepCalls s (suc r)
-            | true ↦ elim (again a v (suc d) s r) [
-              | ended true s′ r′ ↦ obey e w s′ r′
-              | ended false s′ r′ ↦ skip e w s′ r′
-              | stopped k s′ r′ ↦ stopped k s′ r′
-            ]
-          ]
-        ]
+        onCall (texts a) d (λ k. stopped k s (suc r))
+        (λ v. elim (again a v (suc d) s r) [ ended true s′ r′ ↦ obey e w s′ r′ | ended false s′ r′ ↦ skip e w s′ r′ | stopped k s′ r′ ↦ stopped k s′ r′ ])
     obey (inner f e) w s r =
         elim (obey f f s r) [ ended true s′ r′ ↦ obey e w s′ r′ | ended false s′ r′ ↦ skip e w s′ r′ | stopped k s′ r′ ↦ stopped k s′ r′ ]
 

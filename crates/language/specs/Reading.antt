@@ -1,6 +1,7 @@
 -- The parser: from the tokens of a text to its expression, or to the number of its first fault.
-use Prim.Native.Nat.{ℕ, zero, suc}
+use Prim.Native.Nat.{ℕ, suc}
 use mathlib.Core.Bool.{Bool, true, false}
+use mathlib.Core.Option.{Option, none, some}
 use mathlib.Core.List.{List, [], _∷_}
 use lib.ListN.{length}
 use lib.Dec.{leb, ltb}
@@ -9,8 +10,9 @@ use Rattle.language.specs.declared.Refusal.the-variants.{LongText, Stray
 use Rattle.language.specs.Limits.{maxText, maxLevels, maxCells, maxCounters}
 use Rattle.language.specs.Syntax.{condition, counter, Expr, close, semi, colon, operate, test, call, inner}
 use Rattle.language.specs.Tokens.{Token, opens, closes, semis, colons, begins, ends, does, asks, counts, calls, faults, idle, tokens}
-use Rattle.language.specs.Layout.{afterOperation, afterPredicate, afterCall}
+use Rattle.language.specs.Layout.{afterOperation, afterPredicate, afterCall, codeStart}
 
+-- what a text is read to: the refusal of its first fault, or its expression
 pub data Reading : Type 0 where
   refused : Refusal → Reading
   accepted : Expr → Reading
@@ -22,6 +24,7 @@ pub data Place : Type 0 where
   inside : (Expr → Expr) → List (Expr → Expr) → ℕ → ℕ → Place
   whole : Expr → Place
 
+-- on where a test holds, else refused
 unfoldable pub require : Bool → Refusal → (Unit {0} → Reading) → Reading
 require true r k = k tt
 require false r k = refused r
@@ -50,7 +53,7 @@ within (faults r) f st q c k = refused r
 
 -- "A text is one outermost expression, with only blanks, newlines and comments around it." Code starts at cell 2.
 unfoldable pub starting : Token → (Place → Reading) → Reading
-starting opens k = k (inside (λ b. b) [] 2 0)
+starting opens k = k (inside (λ b. b) [] codeStart 0)
 starting closes k = refused StrayMark
 starting semis k = refused StrayMark
 starting colons k = refused StrayMark
@@ -62,6 +65,7 @@ starting (counts m) k = refused StrayMark
 starting (calls a) k = refused StrayMark
 starting (faults r) k = refused r
 
+-- a token after the last `)`
 unfoldable pub ending : Token → Expr → Reading
 ending opens w = refused StrayMark
 ending closes w = refused StrayMark
@@ -75,6 +79,7 @@ ending (counts m) w = refused StrayMark
 ending (calls a) w = refused StrayMark
 ending (faults r) w = refused r
 
+-- the expression of tokens, from a place of the parser on
 unfoldable pub parse : List Token → Place → Reading
 unfolding within starting ending
 parse [] p = refused Unfinished
@@ -86,3 +91,8 @@ parse (t ∷ l) (whole w) = ending t w
 unfoldable pub read : List ℕ → Reading
 unfolding require parse tokens
 read t = require (leb (length t) maxText) LongText (λ _. parse (tokens t idle) outside)
+
+-- a text's expression, if it is accepted
+unfoldable pub exprOf : Reading → Option Expr
+exprOf (refused r) = none
+exprOf (accepted w) = some w

@@ -1,5 +1,5 @@
 -- Marks and expressions: what a text is once it is read.
-use Prim.Native.Nat.{ℕ, zero, suc}
+use Prim.Native.Nat.{ℕ}
 use mathlib.Core.List.{List, [], _∷_}
 use lib.IntN.{ℤ}
 
@@ -7,9 +7,11 @@ use lib.IntN.{ℤ}
 pub data Operator : Type 0 where
   absolute discard negate copy write newline input add subtract multiply divide : Operator
 
+-- all operators
 abbrev pub operators : List Operator
 operators = absolute ∷ discard ∷ negate ∷ copy ∷ write ∷ newline ∷ input ∷ add ∷ subtract ∷ multiply ∷ divide ∷ []
 
+-- an operator's byte
 abbrev pub operatorByte : Operator → ℕ
 operatorByte absolute = 65
 operatorByte discard = 76
@@ -27,9 +29,11 @@ operatorByte divide = 47
 pub data Access : Type 0 where
   fetch save : Access
 
+-- both accesses
 abbrev pub accesses : List Access
 accesses = fetch ∷ save ∷ []
 
+-- an access's byte
 abbrev pub accessByte : Access → ℕ
 accessByte fetch = 70
 accessByte save = 83
@@ -38,13 +42,27 @@ accessByte save = 83
 pub data Condition : Type 0 where
   negative null equal : Condition
 
+-- all conditions
 abbrev pub conditions : List Condition
 conditions = negative ∷ null ∷ equal ∷ []
 
+-- a condition's byte
 abbrev pub conditionByte : Condition → ℕ
 conditionByte negative = 78
 conditionByte null = 48
 conditionByte equal = 74
+
+-- "A mark's code is minus its byte": the byte of `$`; "for a constant it is -175 and for a print -167 (byte of `/` or `'` plus 128)"
+abbrev pub counterCode : ℕ
+counterCode = 36
+
+-- a constant's code, negated in its cell
+abbrev pub constantCode : ℕ
+constantCode = 175
+
+-- a print's code, negated in its cell
+abbrev pub printCode : ℕ
+printCode = 167
 
 -- The marks that go on or stop the run. A variable has its digit, 0 as 10; a print has its bytes.
 pub data Operation : Type 0 where

@@ -1,11 +1,14 @@
 -- The lexer: from the bytes of a text to its tokens, the marks of document 01. It stops at the first byte that breaks a form.
 use Prim.Native.Nat.{ℕ, zero, suc, _+_, _*_, _-_}
-use mathlib.Core.Bool.{Bool, true, false, cond, not, _&&_}
+use mathlib.Core.Bool.{Bool, true, false, cond}
 use mathlib.Core.List.{List, [], _∷_, _++_, map, reverse}
 use lib.IntN.{ℤ, pos, negℤ}
-use lib.Dec.{leb, ltb, eqb}
+use lib.Dec.{ltb, eqb}
 use Rattle.language.specs.declared.Refusal.{Refusal}
 use Rattle.language.specs.declared.Refusal.the-variants.{StrayMark, BadCounter, BadConstant, Unfinished}
+use Rattle.language.specs.Between.{between}
+use Rattle.language.specs.Lookup.{lookup}
+use Rattle.language.specs.Letters.{isLetter, letterIndex}
 use Rattle.language.specs.Syntax.{Operator, operators, operatorByte, Access, accesses, accessByte, Condition, conditions, conditionByte}
 use Rattle.language.specs.Syntax.{Operation, operator, variable, constant, print}
 
@@ -18,14 +21,6 @@ pub data Token : Type 0 where
   faults : Refusal → Token
 
 -- ── bytes ───────────────────────────────────────────────────────────────────────────────────────
-
-abbrev pub between : ℕ → ℕ → ℕ → Bool
-between a b n = leb a n && leb n b
-
--- the entry of the first pair with key b, or d
-abbrev pub lookup : {A : Type 0} → List (ℕ × A) → A → ℕ → A
-lookup [] d b = d
-lookup (e ∷ l) d b = cond (eqb (e .0) b) (e .1) (lookup l d b)
 
 -- what a byte is where a mark may begin
 pub data Class : Type 0 where
@@ -46,7 +41,7 @@ classes =
 
 -- "and `a` to `z`, which call the procedure of that letter"
 unfoldable pub class : ℕ → Class
-class b = cond (between 97 122 b) (calling (b - 97)) (lookup classes stray b)
+class b = cond (isLetter b) (calling (letterIndex b)) (lookup classes stray b)
 
 -- "zero or more bytes 32 to 126 or 10 other than `"`"
 abbrev pub commentByte : ℕ → Bool
@@ -63,10 +58,12 @@ pub data Form : Type 0 where
   counterForm : Form
   constantForm : Bool → Form
 
+-- the most digits of a number
 abbrev pub mostDigits : Form → ℕ
 mostDigits counterForm = 4
 mostDigits (constantForm s) = 9
 
+-- the byte that ends a number's mark
 abbrev pub closingByte : Form → ℕ
 closingByte counterForm = 36
 closingByte (constantForm s) = 39
@@ -76,6 +73,7 @@ abbrev pub formFault : Form → Refusal
 formFault counterForm = BadCounter
 formFault (constantForm s) = BadConstant
 
+-- a value after a `-`, or without
 abbrev pub signed : Bool → ℕ → ℤ
 signed true v = negℤ (pos v)
 signed false v = pos v
@@ -95,9 +93,11 @@ pub data Mode : Type 0 where
   number : Form → ℕ → ℕ → Mode
   printing : List ℕ → Mode
 
+-- a fault ends the tokens
 abbrev pub fault : Refusal → List Token
 fault r = faults r ∷ []
 
+-- on where a test holds, else a fault
 unfoldable pub unless : Bool → Refusal → (Unit {0} → List Token) → List Token
 unless true r k = k tt
 unless false r k = fault r
@@ -133,6 +133,7 @@ numbered true c b f n v k = unless (ltb n (mostDigits f)) (formFault f) (λ _. k
 numbered false true b f n v k = unless (ltb 0 n) (formFault f) (λ _. numeral f v k)
 numbered false false b f n v k = fault (formFault f)
 
+-- a byte of a number, after n digits of the value v
 unfoldable pub scanNumber : Form → ℕ → ℕ → ℕ → (Mode → List Token) → List Token
 unfolding numbered
 scanNumber f n v b k = numbered (between 48 57 b) (eqb b (closingByte f)) b f n v k
@@ -166,6 +167,7 @@ commented true u k = k idle
 commented false true k = k comment
 commented false false k = fault StrayMark
 
+-- a byte in any mode
 unfoldable pub scan : Mode → ℕ → (Mode → List Token) → List Token
 unfolding class first scanNumber slashed ticked accessed printed commented
 scan idle b k = first (class b) k
@@ -186,6 +188,7 @@ finish (after-access a) = fault Unfinished
 finish (number f n v) = fault Unfinished
 finish (printing l) = fault Unfinished
 
+-- the tokens of bytes, from a mode on
 unfoldable pub tokens : List ℕ → Mode → List Token
 unfolding scan finish
 tokens [] m = finish m

@@ -3,10 +3,43 @@ ghost use mathlib.Core.Path.{_≡_};
 ghost use Rattle.language.specs.Answers.{refusalNumber, endingNumber};
 ghost use Rattle.language.specs.Layout.{cleared};
 
+// The letters of a store, `a` to `z`.
+pub const LETTERS: usize = 26;
+
+// The cells of all letters' tables.
+pub const STORE_CELLS: usize = LETTERS * Table::CELLS;
+
+// The counts of all letters' counters.
+pub const COUNTS: usize = LETTERS * Table::COUNTERS;
+
+// "ten variables"
+pub const VARIABLES: usize = 10;
+
+// "The list starts empty and holds 64."
+pub const HEIGHT: usize = 64;
+
+// "A text has at most 256 bytes."
+pub const TEXT: usize = 256;
+
+// "Values lie in ±999,999,999."
+pub const MOST_VALUE: i32 = 999999999;
+
+// The least of them.
+pub const LEAST_VALUE: i32 = -999999999;
+
+// "`O` writes the top right-justified in 12 columns"
+pub const WRITE_WIDTH: usize = 12;
+
+// The code of a constant, which its cell holds negated: "(byte of `/` or `'` plus 128)".
+pub const CONSTANT_CODE: u8 = b'/' + 128;
+
+// The same for a print.
+pub const PRINT_CODE: u8 = b'\'' + 128;
+
 // One letter's code table: how many of its cells are used, and its cells. Cell 1 of document 01 is `cells[0]`.
 pub struct Table {
     pub used: usize,
-    pub cells: [i32; 250],
+    pub cells: [i32; Table::CELLS],
 }
 
 impl Table {
@@ -18,6 +51,11 @@ impl Table {
     pub const COUNTERS: usize = 16;
     // The calls that may be open at once, the run's own letter not counted.
     pub const CALLS: usize = 100;
+    // "Cell 1 holds 2000"
+    pub const FIRST_CELL: i32 = 2000;
+
+    // "Code starts at cell 2."
+    pub const CODE_START: usize = 2;
 
     // The table of a cleared letter.
     pub fn fresh() -> Table
@@ -25,7 +63,7 @@ impl Table {
     {
         Table {
             used: 0,
-            cells: [0i32; 250],
+            cells: [0i32; Table::CELLS],
         }
     }
 }

@@ -1,11 +1,1 @@
-pub mod Bytes
-pub mod Ints
-pub mod Sorts
-pub mod Lexing
-pub mod Drafts
-pub mod Emission
-pub mod Filling
-pub mod Cells
-pub mod Simulation
-pub mod Scanning
-pub mod Linking
+pub mod LinkedText

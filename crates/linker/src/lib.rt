@@ -1,33 +1,27 @@
 // The linker: from a source text to its code table, or to the number of its refusal.
 ghost use mathlib.Core.Path.{_≡_};
-ghost use Prim.Native.Nat.{_≤_, min};
+ghost use Prim.Native.Nat.{min};
 ghost use lib.ListN.{length};
 ghost use lib.Seq.{paste};
 ghost use Rattle.language.specs.Answers.{refusalNumber};
 ghost use Rattle.language.specs.Layout.{cleared};
+ghost use Rattle.language.specs.Limits.{maxCells};
 ghost use Rattle.language.specs.Reading.{read};
-ghost use Rattle.linker.specs.Linked.{linked};
-
-mod exits;
-mod lexer;
-mod pass;
-
-use exits::fill;
+ghost use Rattle.linker.specs.Linked.{linked, Copies};
+use assembler::exits::fill;
+use assembler::scan::scan;
 use language::Refusal;
+use language::TEXT;
 use language::Table;
 use lexer::Skipped;
 use lexer::skip;
 use lexer::skip_refusal;
-use pass::scan;
 
 // Document 01's number, 0 where the text is accepted, and its table, which is cleared where it is refused.
 pub struct Linked {
     pub number: u32,
     pub table: Table,
 }
-
-// The bytes that a text may have.
-const TEXT: usize = 256;
 
 // A refusal, with a cleared table.
 fn refused(why: Refusal) -> Linked
@@ -56,9 +50,9 @@ pub fn link(text: &[u8]) -> Linked
     if text[at] != b'(' {
         return refused(Refusal::StrayMark);
     }
-    let mut cells = [0i32; 250];
-    let mut kinds = [0u8; 250];
-    let mut levels = [0u8; 250];
+    let mut cells = [0i32; Table::CELLS];
+    let mut kinds = [0u8; Table::CELLS];
+    let mut levels = [0u8; Table::CELLS];
     let s = scan(text, at + 1, &mut cells, &mut kinds, &mut levels);
     let p = s.pass;
     if p.fault != 0 {
@@ -89,12 +83,13 @@ pub fn link(text: &[u8]) -> Linked
 pub extern "C" fn rec_check(text: &[u8]) -> u32
     ensures { λ r. ⌜ r ≡ linked (read (now (text .entry))) .number ⌝ }
 {
-    link(text).number
+    let checked = link(text);
+    checked.number
 }
 
 // The first n cells of a table in the first n of the lent places.
-fn copy_cells(table: &[i32; 250], places: &mut [i32], n: usize)
-    requires { ⌜ (length (now table) ≡ 250) × ((n ≤ 250) × (n ≤ length (now places))) ⌝ }
+fn copy_cells(table: &[i32; Table::CELLS], places: &mut [i32], n: usize)
+    requires { ⌜ Copies (now table) (now places) n ⌝ }
     ensures { λ _. ⌜ now (places .exit) ≡ paste (now (places .entry)) 0 (now (table .entry)) n ⌝ }
 {
     let mut i: usize = 0;
@@ -106,7 +101,7 @@ fn copy_cells(table: &[i32; 250], places: &mut [i32], n: usize)
 
 // n, and at most the cells of a table.
 fn at_most(n: usize) -> usize
-    ensures { λ r. ⌜ r ≡ min 250 n ⌝ }
+    ensures { λ r. ⌜ r ≡ min maxCells n ⌝ }
 {
     if Table::CELLS < n { Table::CELLS } else { n }
 }
@@ -115,7 +110,8 @@ fn at_most(n: usize) -> usize
 #[no_mangle]
 pub extern "C" fn rec_link(text: &[u8], cells: &mut [i32]) -> u32
     ensures { λ r. ⌜ (r ≡ linked (read (now (text .entry))) .number)
-        × (now (cells .exit) ≡ paste (now (cells .entry)) 0 (linked (read (now (text .entry))) .table .cells) (min 250 (length (now (cells .entry))))) ⌝ }
+        × (now (cells .exit)
+        ≡ paste (now (cells .entry)) 0 (linked (read (now (text .entry))) .table .cells) (min maxCells (length (now (cells .entry))))) ⌝ }
 {
     let l = link(text);
     let t = l.table;

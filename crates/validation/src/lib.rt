@@ -1,21 +1,33 @@
-// What refuses inputs (11) and a store (13).
+// What refuses a letter (1), inputs (11) and a store (13).
 ghost use mathlib.Core.Path.{_≡_};
 ghost use mathlib.Core.Bool.{_&&_};
-ghost use Prim.Native.Nat.{_≤_};
-ghost use lib.ListN.{length};
-ghost use Rattle.language.specs.Effects.{isValue};
-ghost use Rattle.language.specs.Book.{lawful};
-ghost use Rattle.language.specs.Store.{soundUsed};
-ghost use Rattle.validation.specs.Counts.{soundCount};
+ghost use Rattle.language.specs.Letters.{isLetter};
+ghost use Rattle.language.specs.Tables.{soundCount, soundUsed};
+ghost use Rattle.language.specs.Values.{isValue, lawful};
+use language::LEAST_VALUE;
+use language::LETTERS;
+use language::MOST_VALUE;
+use language::Table;
+use language::VARIABLES;
 
-// A number within the values.
-fn is_value(v: i32) -> bool
-    ensures { λ r. ⌜ r ≡ isValue v ⌝ }
+// "no such letter: not `a` to `z`"
+pub fn is_letter(letter: u8) -> bool
+    ensures { λ r. ⌜ r ≡ isLetter letter ⌝ }
 {
-    if v < -999999999 {
+    if letter < b'a' {
         return false;
     }
-    if 999999999 < v {
+    letter <= b'z'
+}
+
+// "Values lie in ±999,999,999."
+pub fn is_value(v: i32) -> bool
+    ensures { λ r. ⌜ r ≡ isValue v ⌝ }
+{
+    if v < LEAST_VALUE {
+        return false;
+    }
+    if MOST_VALUE < v {
         return false;
     }
     true
@@ -45,11 +57,11 @@ fn sound_count(n: usize) -> bool
     if n < 3 {
         return false;
     }
-    n <= 250
+    n <= Table::CELLS
 }
 
 // Every used-cell count is sound.
-pub fn sound_used(used: &[usize]) -> bool
+fn sound_used(used: &[usize]) -> bool
     ensures { λ r. ⌜ r ≡ soundUsed (now (used .entry)) ⌝ }
 {
     let mut i: usize = 0;
@@ -60,4 +72,15 @@ pub fn sound_used(used: &[usize]) -> bool
         i += 1;
     }
     true
+}
+
+// "bad store: a used count neither 0 nor 3 to 250, or a variable outside the values" is not so.
+pub fn sound_store(used: [usize; LETTERS], vars: [i32; VARIABLES]) -> bool
+    ensures { λ r. ⌜ r ≡ soundUsed used && lawful vars ⌝ }
+{
+    if sound_used(&used) {
+        lawful(&vars)
+    } else {
+        false
+    }
 }

@@ -1,5 +1,6 @@
 // A withdrawn letter pays no more through a letter that calls it. Letter p pays 5 and q calls p; p is withdrawn between two runs of q.
 use engine::Store;
+use language::HEIGHT;
 ghost use mathlib.Core.Path.{_≡_};
 ghost use lib.IntN.{pos};
 
@@ -16,9 +17,9 @@ pub fn session() -> Shown
     ensures { λ r. ⌜ r ≡ record { before = 0; paid = pos 5; after = 27; withdrawn = 10 } ⌝ }
 {
     let none = [0i32; 0];
-    let mut list = [0i32; 64];
-    let mut list2 = [0i32; 64];
-    let mut list3 = [0i32; 64];
+    let mut list = [0i32; HEIGHT];
+    let mut list2 = [0i32; HEIGHT];
+    let mut list3 = [0i32; HEIGHT];
     let mut output = [0u8; 16];
     let mut output2 = [0u8; 16];
     let mut output3 = [0u8; 16];
@@ -29,10 +30,10 @@ pub fn session() -> Shown
     let second = x.store.run(b'q', 9, &none, &mut list2, &mut output2);
     let third = second.store.run(b'p', 9, &none, &mut list3, &mut output3);
     Shown {
-        before: first.number,
+        before: first.report.number,
         paid: list[0],
-        after: second.number,
-        withdrawn: third.number,
+        after: second.report.number,
+        withdrawn: third.report.number,
     }
 }
 

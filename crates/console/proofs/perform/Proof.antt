@@ -1,138 +1,85 @@
 -- `console::perform` meets its contract.
-use mathlib.Core.Path.{sym, ap, _∙_, subst}
+use mathlib.Core.Path.{_≡_, sym, ap, _∙_, subst}
 use native.Mathlib.Omega.{arith}
-use Prim.Native.Nat.{_-_}
+use Prim.Native.Nat.{ℕ, _-_}
+use mathlib.Core.List.{List}
 use lib.ListN.{length, drop, length-drop}
 use lib.Seq.{take-all, length-take-le}
 use denote.Ref.{now}
+use Rattle.book.specs.Store.{storeOf}
+use Rattle.lines.specs.declared.Command.{Command}
+use Rattle.lines.specs.Lines.{define, request}
+use Rattle.lines.specs.Commands.{fieldStart, Asks}
+use Rattle.figures.specs.Printed.{figures, told}
+use Rattle.console.specs.Desk.{granted, printed}
+use Rattle.console.proofs.Desk.{told-printed, no-room, by-request}
 use borrow.Author.Needs.{needs}
-use Rattle.engine.specs.Stored.{stored}
-use Rattle.console.specs.Lines.{define, request}
-use Rattle.console.specs.Figures.{told}
-use Rattle.console.specs.Desk.{granted, deskLine}
-use Rattle.console.specs.Commands.{Parsed, laidOut}
 use Rattle.console.proofs.perform.Statement.{statement}
 use Rattle.console.proofs.perform.Tie as tie
 
-slice-aggregate-parse : tie.Need-slice-aggregate-parse
-slice-aggregate-parse c = search needs
+-- what the line asks for
+module _ (c : tie.After-parse) where
+  abbrev text : List ℕ
+  text = now (c .before .before .before .before .before .args .line)
 
-parse-requires : tie.Need-parse-requires
-parse-requires c κs = search needs
+  asks : (r : Command) → c .parse .result ≡ r → Asks r text (c .parse .last .1 .0) (request text)
+  asks r e = subst (λ z. Asks z text (c .parse .last .1 .0) (request text)) e (c .parse .ensures .asks)
 
-enum-known-command : tie.Need-enum-known-command
-enum-known-command c = search needs
+returns : tie.Need-returns
+returns c = no-room _ _ _ _ (c .if1 .taken)
 
 sub-define : tie.Need-sub-define
-sub-define c =
-    let s = c .before .before .before .before .before .before .before .args in
-    let p = c .before .before .before .before .parse in
-    let m = subst (λ r. Parsed r (now (s .line)) (p .last .1 .0) (request (now (s .line)))) (c .before .command .given .1) (p .ensures) in
-    m .within
+sub-define c = asks (c .before .before .before .before .before .before) _ (c .before .before .before .before .command .given .1) .within
 
 part-define-start : tie.Need-part-define-start
-part-define-start c =
-    let s = c .before .before .before .before .before .before .before .args in
-    let p = c .before .before .before .before .parse in
-    let m = subst (λ r. Parsed r (now (s .line)) (p .last .1 .0) (request (now (s .line)))) (c .before .command .given .1) (p .ensures) in
-    m .within
-
-part-define-end : tie.Need-part-define-end
-part-define-end c = search needs
-
-define-requires : tie.Need-define-requires
-define-requires c κs = search needs
-
-enum-known-command-2 : tie.Need-enum-known-command-2
-enum-known-command-2 c = search needs
-
-withdraw-requires : tie.Need-withdraw-requires
-withdraw-requires c κs = search needs
-
-enum-known-command-3 : tie.Need-enum-known-command-3
-enum-known-command-3 c = search needs
+part-define-start c = asks (c .before .before .before .before .before .before) _ (c .before .before .before .before .command .given .1) .within
 
 array-share-prefix-inputs : tie.Need-array-share-prefix-inputs
-array-share-prefix-inputs c =
-    let s = c .before .before .before .before .before .before .before .args in
-    let p = c .before .before .before .before .parse in
-    let m = subst (λ r. Parsed r (now (s .line)) (p .last .1 .0) (request (now (s .line)))) (c .before .command3 .given .1) (p .ensures) in
-    omega (arith, m .within, p .kept .1 .0)
+array-share-prefix-inputs c = omega (arith, asks (c .before .before .before .before .before .before) _ (c .before .before .before .before .command3 .given .1) .within, c .before .before .before .before .before .before .parse .ensures .places)
 
-slice-aggregate-run : tie.Need-slice-aggregate-run
-slice-aggregate-run c =
-    let s = c .before .before .before .before .before .before .before .before .args in
-    let p = c .before .before .before .before .before .parse in
-    let m = subst (λ r. Parsed r (now (s .line)) (p .last .1 .0) (request (now (s .line)))) (c .before .before .command3 .given .1) (p .ensures) in
-    sym (length-take-le _ (p .last .1 .0) (omega (arith, m .within, p .kept .1 .0)))
-
-run-requires : tie.Need-run-requires
-run-requires c κs = search needs
+slice-aggregate-execute : tie.Need-slice-aggregate-execute
+slice-aggregate-execute c = sym (length-take-le _ _ (omega (arith, asks (c .before .before .before .before .before .before .before) _ (c .before .before .before .before .before .command3 .given .1) .within, c .before .before .before .before .before .before .before .parse .ensures .places)))
 
 enum-told : tie.Need-enum-told
 enum-told c = search needs
 
-number-requires : tie.Need-number-requires
-number-requires c κs = search needs
-
-told-requires : tie.Need-told-requires
-told-requires c κs = search needs
-
-returns : tie.Need-returns
-unfolding deskLine granted
-returns c =
-    let s = c .before .before .before .before .before .before .before .before .before .args in
-    let p = c .before .before .before .before .before .before .parse in
-    let m = subst (λ r. Parsed r (now (s .line)) (p .last .1 .0) (request (now (s .line)))) (c .before .before .before .command .given .1) (p .ensures) in
-    c .define .ensures
-    ∙ ap (λ t. laidOut (granted (stored (s .store)) (s .number) (define (c .before .before .before .command .given .0 .0) t))) (take-all (length (now (s .line)) - 4) (drop 4 (now (s .line))) (omega (arith, length-drop 4 (now (s .line)))))
-    ∙ ap (λ q. laidOut (granted (stored (s .store)) (s .number) q)) (m .means)
-
 returns-2 : tie.Need-returns-2
-unfolding deskLine granted
+unfolding granted
 returns-2 c =
-    let s = c .before .before .before .before .before .before .before .before .args in
-    let p = c .before .before .before .before .before .parse in
-    let m = subst (λ r. Parsed r (now (s .line)) (p .last .1 .0) (request (now (s .line)))) (c .before .before .command2 .given .1) (p .ensures) in
-    c .withdraw .ensures ∙ ap (λ q. laidOut (granted (stored (s .store)) (s .number) q)) (m .means)
+    let s = c .before .before .before .before .before .before .before .before .before .before .before .before .before .before .before .before .before .args in
+    let st = storeOf (now (s .cells)) (now (s .used)) (now (s .vars)) in
+    told-printed st _ (s .number) _ _ (now (s .paper)) _ _ (c .before .before .before .before .define .ensures) (c .before .before .tell .ensures)
+    ∙ ap (λ t. printed (now (s .paper)) (granted st (s .number) (define (c .before .before .before .before .before .before .before .before .before .before .command .given .0 .0) t)))
+    (take-all (length (now (s .line)) - fieldStart) (drop fieldStart (now (s .line))) (omega (arith, length-drop fieldStart (now (s .line)))))
+    ∙ by-request st (s .number) (now (s .line)) (now (s .paper)) _ (c .before .before .before .before .before .before .before .before .before .before .before .before .before .before .if1 .left) (asks (c .before .before .before .before .before .before .before .before .before .before .before .before) _ (c .before .before .before .before .before .before .before .before .before .before .command .given .1) .means)
 
 returns-3 : tie.Need-returns-3
-unfolding deskLine granted
+unfolding granted
 returns-3 c =
-    let s = c .before .before .before .before .before .before .before .before .before .args in
-    let p = c .before .before .before .before .before .before .parse in
-    let m = subst (λ r. Parsed r (now (s .line)) (p .last .1 .0) (request (now (s .line)))) (c .before .before .before .command3 .given .1) (p .ensures) in
-    c .run .ensures ∙ ap (λ q. laidOut (granted (stored (s .store)) (s .number) q)) (m .means)
+    let s = c .before .before .before .before .before .before .before .before .before .before .before .before .before .before .before .before .args in
+    let st = storeOf (now (s .cells)) (now (s .used)) (now (s .vars)) in
+    told-printed st _ (s .number) _ _ (now (s .paper)) _ _ (c .before .before .before .before .withdraw .ensures) (c .before .before .tell2 .ensures)
+    ∙ by-request st (s .number) (now (s .line)) (now (s .paper)) _ (c .before .before .before .before .before .before .before .before .before .before .before .before .before .if1 .left) (asks (c .before .before .before .before .before .before .before .before .before .before .before) _ (c .before .before .before .before .before .before .before .before .before .command2 .given .1) .means)
 
 returns-4 : tie.Need-returns-4
-unfolding deskLine granted
 returns-4 c =
-    let s = c .before .before .before .before .before .before .before .before .args in
-    let p = c .before .before .before .before .before .parse in
-    let m = subst (λ r. Parsed r (now (s .line)) (p .last .1 .0) (request (now (s .line)))) (c .before .before .enum-told .given .1) (p .ensures) in
-    c .told .ensures ∙ ap (λ n. laidOut (stored (s .store), told (s .number) n)) (c .before .number .ensures) ∙ ap (λ q. laidOut (granted (stored (s .store)) (s .number) q)) (m .means)
+    let s = c .before .before .before .before .before .before .before .before .before .before .before .before .before .before .before .before .args in
+    let st = storeOf (now (s .cells)) (now (s .used)) (now (s .vars)) in
+    c .before .before .execute .ensures
+    ∙ by-request st (s .number) (now (s .line)) (now (s .paper)) _ (c .before .before .before .before .before .before .before .before .before .before .before .before .before .if1 .left) (asks (c .before .before .before .before .before .before .before .before .before .before .before) _ (c .before .before .before .before .before .before .before .before .before .command3 .given .1) .means)
+
+returns-5 : tie.Need-returns-5
+unfolding granted
+returns-5 c =
+    let s = c .before .before .before .before .before .before .before .before .before .before .before .before .args in
+    let st = storeOf (now (s .cells)) (now (s .used)) (now (s .vars)) in
+    (λ i. (st, c .before .before .tell3 .ensures i))
+    ∙ ap (λ n. printed (now (s .paper)) (st, figures (told (s .number) n))) (c .before .before .before .number .ensures)
+    ∙ by-request st (s .number) (now (s .line)) (now (s .paper)) _ (c .before .before .before .before .before .before .before .before .before .if1 .left) (asks (c .before .before .before .before .before .before .before) _ (c .before .before .before .before .before .enum-told .given .1) .means)
 
 pub perform-spec : {M : Type 1} → statement M
 perform-spec =
-    tie.close
-    (tie.spec
-    slice-aggregate-parse
-    parse-requires
-    enum-known-command
-    sub-define
-    part-define-start
-    part-define-end
-    define-requires
-    enum-known-command-2
-    withdraw-requires
-    enum-known-command-3
-    array-share-prefix-inputs
-    slice-aggregate-run
-    run-requires
-    enum-told
-    number-requires
-    told-requires
-    returns
-    returns-2
-    returns-3
-    returns-4)
+    tie.close (tie.spec returns (λ c κs. search needs) (λ c. search needs) sub-define part-define-start (λ c. search needs) (λ c κs. search needs)
+    (λ c κs. search needs) (λ c. search needs) (λ c κs. search needs) (λ c κs. search needs) (λ c. search needs) array-share-prefix-inputs
+    slice-aggregate-execute (λ c κs. search needs) enum-told (λ c κs. search needs) (λ c κs. search needs) (λ c. search needs) returns-2
+    (λ c. search needs) returns-3 (λ c. search needs) returns-4 (λ c. search needs) returns-5)

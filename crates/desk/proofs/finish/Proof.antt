@@ -1,57 +1,58 @@
 -- `desk::finish` meets its contract.
-use mathlib.Core.Path.{refl, sym, ap}
+use mathlib.Core.Path.{_≡_, refl, sym}
 use mathlib.Core.List.{List}
-use Prim.Native.Nat.{ℕ}
+use Prim.Native.Nat.{ℕ, _-_, _≤_}
 use native.Mathlib.Omega.{arith}
+use lib.ListN.{length, take, drop, length-take, length-drop}
 use lib.Seq.{length-take-le}
 use denote.Ref.{now}
+use Rattle.console.specs.Desk.{paperBytes}
+use Rattle.console.proofs.Desk.{performed-store, performed-end}
+use Rattle.desk.specs.Input.{heldBytes}
+use Rattle.desk.proofs.Input.{past-last, one-line}
 use borrow.Author.Needs.{needs}
-use Rattle.language.specs.Store.{Store}
-use Rattle.console.proofs.Writing.{printed-within}
-use Rattle.desk.specs.Input.{progress}
-use Rattle.desk.proofs.Feeding.{past-last, one-line}
 use Rattle.desk.proofs.finish.Statement.{statement}
 use Rattle.desk.proofs.finish.Tie as tie
 
-returns : tie.Need-returns
-returns c = (omega arith, (omega arith, past-last (progress (c .before .before .before .before .args .desk) (now (c .before .before .before .before .args .line))) (omega arith)))
+-- the part of the output that the line is printed to
+module _ (c : tie.After-perform) where
+  abbrev out : List ℕ
+  out = now (c .before .before .before .before .before .before .before .before .before .before .before .before .before .args .out)
 
-add-number : tie.Need-add-number
-add-number c = search needs
+  abbrev held : ℕ
+  held = c .before .before .before .before .before .before .make-room .result
+
+  abbrev part : List ℕ
+  part = take (length out - held) (drop held out)
+
+  part-size : length part ≡ heldBytes - held
+  part-size = simp (length-take, length-drop) (omega (arith, c .before .before .before .before .before .before .before .before .before .before .before .before .before .pre .out, c .before .before .before .before .before .before .make-room .ensures))
+
+  room : paperBytes ≤ length part
+  room = omega (arith, part-size, c .before .before .before .before .before .before .make-room .ensures)
+
+  within : c .perform .result ≤ heldBytes - held
+  within = omega (arith, part-size, performed-end _ _ _ part _ room (c .perform .ensures))
+
+returns : tie.Need-returns
+returns c =
+    let s = c .before .before .before .before in
+    record { within = s .pre .within; to = past-last _ (c .if1 .taken) }
 
 slice-aggregate-perform : tie.Need-slice-aggregate-perform
-slice-aggregate-perform c = let s = c .before .before .before .before .before .before .before in sym (length-take-le (s .args .desk .kept) (now (s .args .line)) (omega arith))
+slice-aggregate-perform c = let s = c .before .before .before .before .before .before .before .before .before .before .before in sym (length-take-le (s .args .desk .kept) (now (s .args .line)) (omega (arith, s .pre .within .kept, s .pre .line)))
 
-perform-requires : tie.Need-perform-requires
-perform-requires c κs = search needs
-
-array-share-prefix-bytes : tie.Need-array-share-prefix-bytes
-array-share-prefix-bytes c = printed-within (c .before .before .before .perform .result) _ (c .before .before .before .perform .ensures)
-
-slice-aggregate-hold : tie.Need-slice-aggregate-hold
-slice-aggregate-hold c = let p = c .before .before .before .before .perform in sym (length-take-le (p .result .length) (p .result .bytes) (printed-within (p .result) _ (p .ensures)))
-
-hold-requires : tie.Need-hold-requires
-hold-requires c κs = search needs
-
-same-length : tie.Need-same-length
-same-length c = search needs
+add-t20 : tie.Need-add-t20
+add-t20 c = record { fits = omega (arith, within (c .before .before), c .before .before .before .before .before .before .before .before .make-room .ensures) }
 
 returns-2 : tie.Need-returns-2
 returns-2 c =
-    let s = c .before .before .before .before .before .before .before .before .before .before .before .before .before .before .before .args in
-    (omega arith, (omega arith, one-line (progress (s .desk) (now (s .line))) _ (omega arith) (ap (λ (x : Store × ℕ × List ℕ). x .0) (c .before .before .before .before .before .before .before .perform .ensures)) refl refl))
+    record {
+      within = record { kept = omega arith; held = omega (arith, within (c .before .before), c .before .before .before .before .before .before .before .before .make-room .ensures) };
+      to = one-line _ _ (c .before .before .before .before .before .before .before .before .before .before .before .if1 .left) (performed-store _ _ _ (part (c .before .before)) _ (room (c .before .before)) (c .before .before .perform .ensures)) refl refl;
+    }
 
 pub finish-spec : {M : Type 1} → statement M
 finish-spec =
-    tie.close
-    (tie.spec
-    returns
-    add-number
-    slice-aggregate-perform
-    perform-requires
-    array-share-prefix-bytes
-    slice-aggregate-hold
-    hold-requires
-    same-length
-    returns-2)
+    tie.close (tie.spec returns (λ c. search needs) (λ c κs. search needs) slice-aggregate-perform (λ c. search needs) (λ c. search needs)
+    (λ c. search needs) (λ c κs. search needs) add-t20 (λ c. search needs) returns-2)

@@ -4,11 +4,9 @@ use borrow.Author.Needs.{needs}
 use Rattle.linker.proofs.rec_check.Statement.{statement}
 use Rattle.linker.proofs.rec_check.Tie as tie
 
-link-requires : tie.Need-link-requires
-link-requires c κs = search needs
-
 returns : tie.Need-returns
 returns c = ap (λ l. l .number) (c .link .ensures)
 
 pub rec-check-spec : {M : Type 1} → statement M
-rec-check-spec = tie.close (tie.spec link-requires returns)
+rec-check-spec =
+    tie.close (tie.spec (λ c κs. search needs) returns)

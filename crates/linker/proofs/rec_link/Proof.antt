@@ -7,18 +7,6 @@ use borrow.Author.Needs.{needs}
 use Rattle.linker.proofs.rec_link.Statement.{statement}
 use Rattle.linker.proofs.rec_link.Tie as tie
 
-link-requires : tie.Need-link-requires
-link-requires c κs = search needs
-
-at-most-requires : tie.Need-at-most-requires
-at-most-requires c κs = search needs
-
-copy-cells-requires : tie.Need-copy-cells-requires
-copy-cells-requires c κs = search needs
-
-same-length : tie.Need-same-length
-same-length c = search needs
-
 returns : tie.Need-returns
 returns c =
     let s = c .before .before .before .before .before .before .before .before .before .args in (
@@ -30,4 +18,4 @@ returns c =
 
 pub rec-link-spec : {M : Type 1} → statement M
 rec-link-spec =
-    tie.close (tie.spec link-requires at-most-requires copy-cells-requires same-length returns)
+    tie.close (tie.spec (λ c κs. search needs) (λ c κs. search needs) (λ c κs. search needs) (λ c. search needs) returns)

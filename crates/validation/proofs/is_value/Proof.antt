@@ -1,11 +1,9 @@
 -- `validation::is_value` meets its contract.
-use mathlib.Core.Path.{_≡_, sym}
+use mathlib.Core.Path.{sym}
 use mir.Facts.{toZ-ofZ}
-use Rattle.validation.proofs.Scans.{below, above, within}
+use Rattle.validation.proofs.Values.{below, above, within}
 use Rattle.validation.proofs.is_value.Statement.{statement}
 use Rattle.validation.proofs.is_value.Tie as tie
-use Rattle.validation.proofs.is_value.Reads as reads
-use Rattle.validation.proofs.is_value.Lts as lts
 
 returns : tie.Need-returns
 returns c = sym (below _ (rw (toZ-ofZ (c .before .fits .v)) at (c .if1 .taken)))
@@ -19,4 +17,5 @@ returns-3 c =
     sym (within _ (rw e at (c .before .if1 .left)) (rw e at (c .if2 .left)))
 
 pub is-value-spec : {M : Type 1} → statement M
-is-value-spec = tie.close (tie.spec returns returns-2 returns-3)
+is-value-spec =
+    tie.close (tie.spec returns returns-2 returns-3)

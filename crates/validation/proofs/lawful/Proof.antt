@@ -3,20 +3,15 @@ use borrow.Author.Tests.{not-true, not-false}
 use mir.Syntax.{w32}
 use mir.Val.{toZ, ofZ}
 use lib.IntN.{pos}
-use Rattle.language.specs.Effects.{isValue}
+use Rattle.language.specs.Values.{isValue, lawful}
 use mathlib.Core.Path.{_≡_, refl, sym, ap, _∙_}
-use Prim.Native.Nat.{ℕ, _+_, _-_, _≤_, _<_}
+use Prim.Native.Nat.{_-_, _≤_}
 use native.Mathlib.Omega.{arith}
 use lib.ListN.{length, getD, drop}
 use borrow.Author.Needs.{needs}
-use Rattle.language.specs.Book.{lawful}
-use Rattle.language.specs.Store.{soundUsed}
-use Rattle.validation.proofs.Scans.{lawful-false, lawful-on, lawful-end}
+use Rattle.validation.proofs.Values.{lawful-false, lawful-on, lawful-end}
 use Rattle.validation.proofs.lawful.Statement.{statement}
 use Rattle.validation.proofs.lawful.Tie as tie
-use Rattle.validation.proofs.lawful.Reads as reads
-use Rattle.validation.proofs.lawful.Lts as lts
-use Rattle.validation.proofs.is_value.Reads as is-value-reads
 
 abbrev Inv-loop : tie.InvT-loop
 Inv-loop values i₀ i = (i ≤ length values) × (lawful values ≡ lawful (drop i values))
@@ -61,16 +56,5 @@ returns-2 c = lawful-end _ (c .before .loop .i) (c .before .loop .inv .1) (omega
 
 pub lawful-spec : {M : Type 1} → statement M
 lawful-spec =
-    tie.close
-    (tie.spec
-    Inv-loop
-    μ-loop
-    loop-holds
-    mul-is-value
-    shared-slice-copy-out-is-value
-    is-value-requires
-    returns
-    add-i
-    loop-less
-    loop-again
+    tie.close (tie.spec Inv-loop μ-loop loop-holds mul-is-value shared-slice-copy-out-is-value is-value-requires returns add-i loop-less loop-again
     returns-2)

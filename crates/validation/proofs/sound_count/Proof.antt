@@ -1,12 +1,8 @@
 -- `validation::sound_count` meets its contract.
-use lib.Dec.{leb}
-use mathlib.Core.Path.{_≡_, refl, sym}
 use borrow.Author.Tests.{eq-eqb, ne-eqb, lt-leb, le-leb}
-use Rattle.validation.specs.Counts.{soundCount}
+use Rattle.language.specs.Tables.{soundCount}
 use Rattle.validation.proofs.sound_count.Statement.{statement}
 use Rattle.validation.proofs.sound_count.Tie as tie
-use Rattle.validation.proofs.sound_count.Reads as reads
-use Rattle.validation.proofs.sound_count.Lts as lts
 
 returns : tie.Need-returns
 unfolding soundCount
@@ -21,4 +17,5 @@ unfolding soundCount
 returns-3 c = rw (ne-eqb _ _ (c .before .if1 .left), le-leb _ _ (c .if2 .left))
 
 pub sound-count-spec : {M : Type 1} → statement M
-sound-count-spec = tie.close (tie.spec returns returns-2 returns-3)
+sound-count-spec =
+    tie.close (tie.spec returns returns-2 returns-3)

@@ -1,18 +1,14 @@
 -- `validation::sound_used` meets its contract: what is left of the list decides.
 use borrow.Author.Tests.{not-true, not-false}
-use mathlib.Core.Path.{_≡_, refl, sym, ap, _∙_}
-use Prim.Native.Nat.{ℕ, _+_, _-_, _≤_, _<_}
+use mathlib.Core.Path.{_≡_, refl, sym, _∙_}
+use Prim.Native.Nat.{_-_, _≤_}
 use native.Mathlib.Omega.{arith}
-use lib.ListN.{length, getD, drop}
+use lib.ListN.{length, drop}
 use borrow.Author.Needs.{needs}
-use Rattle.language.specs.Book.{lawful}
-use Rattle.language.specs.Store.{soundUsed}
-use Rattle.validation.proofs.Scans.{used-false, used-on, used-end}
+use Rattle.language.specs.Tables.{soundUsed}
+use Rattle.validation.proofs.Values.{used-false, used-on, used-end}
 use Rattle.validation.proofs.sound_used.Statement.{statement}
 use Rattle.validation.proofs.sound_used.Tie as tie
-use Rattle.validation.proofs.sound_used.Reads as reads
-use Rattle.validation.proofs.sound_used.Lts as lts
-use Rattle.validation.proofs.sound_count.Reads as sound-count-reads
 
 abbrev Inv-loop : tie.InvT-loop
 Inv-loop used i₀ i = (i ≤ length used) × (soundUsed used ≡ soundUsed (drop i used))
@@ -53,16 +49,5 @@ returns-2 c = used-end _ (c .before .loop .i) (c .before .loop .inv .1) (omega a
 
 pub sound-used-spec : {M : Type 1} → statement M
 sound-used-spec =
-    tie.close
-    (tie.spec
-    Inv-loop
-    μ-loop
-    loop-holds
-    mul-sound-count
-    shared-slice-read-sound-count
-    sound-count-requires
-    returns
-    add-i
-    loop-less
-    loop-again
-    returns-2)
+    tie.close (tie.spec Inv-loop μ-loop loop-holds mul-sound-count shared-slice-read-sound-count sound-count-requires returns add-i loop-less
+    loop-again returns-2)

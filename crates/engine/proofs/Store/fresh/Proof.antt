@@ -1,15 +1,13 @@
 -- `engine::Store::fresh` meets its contract.
 use mathlib.Core.Path.{refl}
-use Rattle.language.specs.Store.{freshStore}
+use Rattle.book.specs.Store.{freshStore}
 use Rattle.engine.proofs.Store.fresh.Statement.{statement}
 use Rattle.engine.proofs.Store.fresh.Tie as tie
-use Rattle.engine.proofs.Store.fresh.Reads as reads
-use Rattle.engine.proofs.Store.fresh.Lts as lts
 
--- src/lib.rt:43:5
 returns : tie.Need-returns
 unfolding freshStore
 returns c = refl
 
 pub fresh-spec : {M : Type 1} → statement M
-fresh-spec = tie.close (tie.spec returns)
+fresh-spec =
+    tie.close (tie.spec returns)

@@ -10,8 +10,8 @@ use mir.Syntax.{w32}
 use mir.Val.{toZ, ofZ}
 use denote.Ref.{now}
 use borrow.Author.Needs.{needs}
-use Rattle.instructions.specs.Operands.{printsFrom}
-use Rattle.instructions.proofs.Prints.{length-prints, getD-prints}
+use Rattle.operands.specs.Operands.{printsFrom}
+use Rattle.operands.proofs.Operands.{length-prints, getD-prints}
 use Rattle.instructions.proofs.output.copy_cells.Statement.{statement}
 use Rattle.instructions.proofs.output.copy_cells.Tie as tie
 
@@ -77,19 +77,5 @@ returns c = let e : c .before .loop .i ≡ c .before .before .before .args .n = 
 
 pub copy-cells-spec : {M : Type 1} → statement M
 copy-cells-spec =
-    tie.close
-    (tie.spec
-    Inv-loop
-    μ-loop
-    loop-holds
-    add-print-byte
-    mul-print-byte
-    element-copy-out-print-byte
-    print-byte-requires
-    add-output
-    slice-write-output
-    add-i
-    loop-less
-    loop-again
-    same-length
-    returns)
+    tie.close (tie.spec Inv-loop μ-loop loop-holds add-print-byte mul-print-byte element-copy-out-print-byte print-byte-requires add-output
+    slice-write-output add-i loop-less loop-again same-length returns)

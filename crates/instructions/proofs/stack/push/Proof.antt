@@ -5,21 +5,6 @@ use borrow.Author.Needs.{needs}
 use Rattle.instructions.proofs.stack.push.Statement.{statement}
 use Rattle.instructions.proofs.stack.push.Tie as tie
 
-mul-v : tie.Need-mul-v
-mul-v c = search needs
-
-element-set-from-v : tie.Need-element-set-from-v
-element-set-from-v c = search needs
-
-add-go : tie.Need-add-go
-add-go c = search needs
-
-go-requires : tie.Need-go-requires
-go-requires c κs = search needs
-
-stop-requires : tie.Need-stop-requires
-stop-requires c κs = search needs
-
 returns : tie.Need-returns
 returns c = λ h. rw (c .go .ensures, toZ-ofZ (c .before .before .fits .v), lt-ltb _ _ (c .before .if1 .taken))
 
@@ -28,5 +13,4 @@ returns-2 c = λ h. rw (c .stop .ensures, le-ltb _ _ (c .before .if1 .left))
 
 pub push-spec : {M : Type 1} → statement M
 push-spec =
-    tie.close
-    (tie.spec mul-v element-set-from-v add-go go-requires stop-requires returns returns-2)
+    tie.close (tie.spec (λ c. search needs) (λ c. search needs) (λ c. search needs) (λ c κs. search needs) (λ c κs. search needs) returns returns-2)

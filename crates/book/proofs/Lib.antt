@@ -1,0 +1,5 @@
+pub mod Examples
+pub mod History
+pub mod HistoryStanding
+pub mod Refusals
+pub mod Store

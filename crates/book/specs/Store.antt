@@ -1,0 +1,99 @@
+-- The store, and what a call does to any store: the right-hand sides of the engine's contracts.
+use Prim.Native.Nat.{ℕ, _*_}
+use mathlib.Core.Bool.{Bool, _&&_}
+use mathlib.Core.Option.{Option, none, some}
+use mathlib.Core.List.{List}
+use lib.IntN.{ℤ, pos}
+use lib.ListN.{set, replicate}
+use lib.Seq.{paste}
+use Rattle.language.specs.declared.Table.{Table}
+use Rattle.language.specs.Limits.{maxCells, maxLetters, maxVariables, storeCells}
+use Rattle.language.specs.Letters.{letterIndex}
+use Rattle.language.specs.Values.{lawful}
+use Rattle.language.specs.Syntax.{Expr}
+use Rattle.language.specs.Reading.{read, exprOf}
+use Rattle.language.specs.Layout.{layout, cleared}
+use Rattle.language.specs.Effects.{start}
+use Rattle.language.specs.Tables.{tableAt, standsAt, execute, soundUsed}
+use Rattle.book.specs.Calls.{Run, Call, defines, withdraws, runs}
+use Rattle.book.specs.declared.Report.{Report}
+use Rattle.book.specs.Replies.{Reply, replied, reported, tells}
+use Rattle.book.specs.Refusals.{refusal, answer}
+
+-- "A store holds 26 letters' tables with their used-cell counts, and ten variables": the cells of letter a are those from 250 a on
+pub record Store : Type 0 where
+  pub cells : List ℤ
+  pub used : List ℕ
+  pub variables : List ℤ
+
+-- the store of these lists
+abbrev pub storeOf : List ℤ → List ℕ → List ℤ → Store
+storeOf c u v = record { cells = c; used = u; variables = v }
+
+-- "A fresh store has every letter cleared", "ten variables, 0 when fresh"
+unfoldable pub freshStore : Store
+freshStore = record { cells = replicate storeCells (pos 0); used = replicate maxLetters 0; variables = replicate maxVariables (pos 0) }
+
+-- "bad store: a used count neither 0 nor 3 to 250, or a variable outside the values"
+unfoldable pub soundStore : Store → Bool
+unfolding soundUsed lawful
+soundStore st = soundUsed (st .used) && lawful (st .variables)
+
+-- ── one letter's entry ──────────────────────────────────────────────────────────────────────────
+
+-- What a store holds of one letter: its code table with its used-cell count.
+pub record Entry : Type 0 where
+  pub table : Table
+
+-- the entry of letter a
+abbrev pub entryAt : Store → ℕ → Entry
+entryAt st a = record { table = tableAt (st .cells) (st .used) a }
+
+-- the store with another entry of letter a: "The used-cell count is replaced or cleared with the table"
+unfoldable pub withEntry : Store → ℕ → Entry → Store
+withEntry st a e =
+    record {
+      cells = paste (st .cells) (a * maxCells) (e .table .cells) maxCells;
+      used = set (st .used) a (e .table .used);
+      variables = st .variables;
+    }
+
+-- the entry of a text, or of a cleared letter
+abbrev pub entryOf : Option Expr → Entry
+entryOf none = record { table = cleared }
+entryOf (some w) = record { table = layout w }
+
+-- the store with other variables: "No run changes a table."
+unfoldable pub withVariables : Store → List ℤ → Store
+withVariables st v = record { cells = st .cells; used = st .used; variables = v }
+
+-- ── calls ───────────────────────────────────────────────────────────────────────────────────────
+
+-- what a run of a letter that stands answers
+unfoldable pub storeRan : Store → Run → Reply
+unfolding reported execute start
+storeRan st x =
+    reported (st .variables) (x .allowance)
+    (execute (st .cells) (st .used) (letterIndex (x .letter)) (x .allowance) (start (st .variables) (x .inputs) (x .output)))
+
+-- A call that is not refused. "Define replaces a letter's table. Withdraw clears it to 0." A run may change the variables.
+unfoldable pub storeAccepts : Store → Call → Store × Reply
+unfolding tells withEntry withVariables storeRan read exprOf
+storeAccepts st (defines l t) = (withEntry st (letterIndex l) (entryOf (exprOf (read t))), tells 0 (defines l t) (st .variables))
+storeAccepts st (withdraws l) = (withEntry st (letterIndex l) (entryOf none), tells 0 (withdraws l) (st .variables))
+storeAccepts st (runs x) = (withVariables st (storeRan st x .variables), storeRan st x)
+
+-- any call
+unfoldable pub storeCall : Store → Call → Store × Reply
+unfolding soundStore refusal answer storeAccepts
+storeCall st c = answer (refusal (soundStore st) (standsAt (st .used)) c) st (st .variables) c (storeAccepts st c)
+
+-- ── what a function of the program returned ─────────────────────────────────────────────────────
+
+-- a call that left the store st and returned the number n alone
+abbrev pub told : Store → ℕ → Call → Store × Reply
+told st n c = (st, tells n c (st .variables))
+
+-- a run that left the store st, the list places p and the output o, and returned the figures r
+abbrev pub answered : Store → Report → List ℤ → List ℕ → Store × Reply
+answered st r p o = (st, replied r p o (st .variables))

@@ -1,0 +1,30 @@
+// What code and definitions share of a call's answer.
+ghost use mathlib.Core.Path.{_≡_};
+ghost use Rattle.book.specs.Replies.{plain};
+
+// The figures that a call returns: "the ending, truth (false unless finished), steps, list height, inputs taken and output length". The number is
+// 0, the ending's or the refusal's.
+pub struct Report {
+    pub number: u32,
+    pub truth: bool,
+    pub steps: u32,
+    pub height: usize,
+    pub taken: usize,
+    pub written: usize,
+}
+
+impl Report {
+    // "A refusal of any call returns its number, every other figure 0 and truth false."
+    pub fn plain(number: u32) -> Report
+        ensures { λ r. ⌜ r ≡ plain number ⌝ }
+    {
+        Report {
+            number,
+            truth: false,
+            steps: 0,
+            height: 0,
+            taken: 0,
+            written: 0,
+        }
+    }
+}

@@ -1,0 +1,128 @@
+-- What a line does over a buffer, request by request; and a run's figures within what is lent.
+use mathlib.Core.Path.{_≡_, refl, sym, ap, _∙_, subst}
+use Prim.Native.Nat.{ℕ, _+_, _≤_, _<_}
+use native.Mathlib.Omega.{arith}
+use mathlib.Core.Bool.{Bool, true, false, cond}
+use mathlib.Core.Option.{Option, none, some}
+use mathlib.Core.List.{List, [], _∷_, _++_}
+use lib.IntN.{ℤ, pos}
+use lib.ListN.{length, take, replicate, length-replicate, length-append}
+use lib.Seq.{paste, length-take-le}
+use lib.Dec.{leb}
+use borrow.Author.Tests.{le-leb, lt-leb, leb-true}
+use Rattle.language.specs.declared.Refusal.{Refusal}
+use Rattle.language.specs.Limits.{maxHeight}
+use Rattle.language.specs.Letters.{letterIndex}
+use Rattle.language.specs.Effects.{start}
+use Rattle.language.specs.Meaning.{Outcome, ended, stopped}
+use Rattle.language.specs.Tables.{standsAt, execute}
+use Rattle.language.specs.Statements.{Lent, finalState}
+use Rattle.language.proofs.EffectsLent.{lent-parts}
+use Rattle.numerals.specs.Numerals.{written}
+use Rattle.numerals.proofs.Numerals.{written-two}
+use Rattle.book.specs.declared.Report.{Report}
+use Rattle.book.specs.Calls.{Run, Call, runs, running}
+use Rattle.book.specs.Replies.{Reply, reported, tells}
+use Rattle.book.specs.Refusals.{refusal, answer}
+use Rattle.book.specs.Store.{Store, soundStore, storeRan, storeAccepts, storeCall, told, answered}
+use Rattle.lines.specs.Lines.{Request, run, request}
+use Rattle.figures.specs.declared.Figures.{Figures}
+use Rattle.figures.specs.Printed as Printed
+use Rattle.figures.specs.Printed.{figures, paper, top}
+use Rattle.figures.proofs.Printed.{figures-most}
+use Rattle.console.specs.Desk.{outputBytes, paperBytes, ranFigures, shown, granted, deskLine, printed, performed}
+
+-- ── a run's figures ─────────────────────────────────────────────────────────────────────────────
+
+-- the height is within the list's 64 places, the output within the m bytes lent
+pub record Bounded (m : ℕ) (r : Reply) : Type 0 where
+  pub height : r .report .height ≤ maxHeight
+  pub written : r .report .written ≤ m
+
+reported-bounded : (o : List ℕ) (v : List ℤ) (n : ℕ) (x : Outcome) → Lent o (finalState x) → Bounded (length o) (reported v n x)
+unfolding reported
+reported-bounded o v n (ended t s r) h = record { height = h .height; written = h .written }
+reported-bounded o v n (stopped e s r) h = record { height = h .height; written = h .written }
+
+-- of a run of any store
+pub run-bounded : (st : Store) (x : Run) → Bounded (length (x .output)) (storeCall st (runs x) .1)
+unfolding storeCall
+run-bounded st x = go (refusal (soundStore st) (standsAt (st .used)) (runs x))
+  where
+    go : (o : Option Refusal) → Bounded (length (x .output)) (answer o st (st .variables) (runs x) (storeAccepts st (runs x)) .1)
+    go none =
+        unfold answer storeAccepts storeRan in
+        reported-bounded (x .output) (st .variables) (x .allowance)
+        (execute (st .cells) (st .used) (letterIndex (x .letter)) (x .allowance) (start (st .variables) (x .inputs) (x .output)))
+        (lent-parts (st .cells) (st .used) (letterIndex (x .letter)) (x .allowance) (st .variables) (x .inputs) (x .output))
+    go (some r) = unfold answer tells in record { height = omega arith; written = omega arith }
+
+-- ── what is printed ─────────────────────────────────────────────────────────────────────────────
+
+-- an output is printed with at most a newline more
+paper-most : (o : List ℕ) → length (paper o) ≤ length o + 1
+unfolding paper
+paper-most [] = omega arith
+paper-most (b ∷ o) = omega (arith, length-append (b ∷ o) (Printed.newlineByte ∷ []))
+
+-- a define or a withdraw c, which left the store st′ and answered n
+pub told-printed : (st st′ : Store) (k n : ℕ) (c : Call) (o o′ : List ℕ) (r : ℕ) → told st′ n c ≡ storeCall st c
+    → (r, o′) ≡ written o 0 (figures (Printed.told k n))
+    → (st′, (r, o′)) ≡ printed o (storeCall st c .0, figures (Printed.told k (storeCall st c .1 .report .number)))
+unfolding tells
+told-printed st st′ k n c o o′ r e p =
+    (λ i. (st′, p i)) ∙ ap (λ (x : Store × Reply). (x .0, written o 0 (figures (Printed.told k (x .1 .report .number))))) e
+
+-- a run that left the store st′, the list p and the output o, and reported r
+module _ (st st′ : Store) (k l n : ℕ) (i p : List ℤ) (o : List ℕ) (r : Report)
+    (e : answered st′ r p o ≡ storeCall st (running l n i (replicate maxHeight (pos 0)) (replicate outputBytes 0))) where
+  pub bounded : Bounded outputBytes (record { report = r; list = p; output = o; variables = st′ .variables })
+  bounded =
+      let lent : List ℕ = replicate outputBytes 0 in
+      let x : Run = record { letter = l; allowance = n; inputs = i; list = replicate maxHeight (pos 0); output = lent } in
+      subst (λ m. Bounded m (record { report = r; list = p; output = o; variables = st′ .variables })) (length-replicate {A = ℕ} outputBytes 0)
+      (subst (λ (y : Store × Reply). Bounded (length lent) (y .1)) (sym e) (run-bounded st x))
+
+  pub run-printed : (b : List ℕ) (v : ℤ) {m s : ℕ} {b₁ b₂ : List ℕ} → paperBytes ≤ length b → r .written ≤ length o → v ≡ top p (r .height)
+      → (m, b₁) ≡ written b 0 (figures (record { line = k; answer = r .number; truth = r .truth; steps = r .steps; height = r .height; top = v }))
+      → (s, b₂) ≡ written b₁ m (paper (take (r .written) o))
+      → (st′, (s, b₂)) ≡ printed b (granted st k (run l n i))
+  unfolding granted shown
+  run-printed b v room w g h q =
+      let f : Figures = record { line = k; answer = r .number; truth = r .truth; steps = r .steps; height = r .height; top = v } in
+      let most = figures-most f in
+      let size = paper-most (take (r .written) o) in
+      let len = length-take-le (r .written) o w in
+      let z = bounded .written in
+      (λ j. (st′, written-two b 0 (figures f) (paper (take (r .written) o)) h q (omega arith) j))
+      ∙ ap (λ (y : ℤ). (st′, written b 0 (figures (record { line = k; answer = r .number; truth = r .truth; steps = r .steps; height = r .height; top = y }) ++ paper (take (r .written) o)))) g
+      ∙ ap (λ (x : Store × Reply). printed b (x .0, figures (ranFigures k (x .1)) ++ paper (take (x .1 .report .written) (x .1 .output)))) e
+
+-- ── a line ──────────────────────────────────────────────────────────────────────────────────────
+
+pub no-room : (st : Store) (k : ℕ) (s o : List ℕ) → length o < paperBytes → (st, (0, o)) ≡ performed st k s o
+unfolding performed
+no-room st k s o h = sym (rw (lt-leb paperBytes (length o) h))
+
+pub by-request : (st : Store) (k : ℕ) (s o : List ℕ) (q : Request) → paperBytes ≤ length o → q ≡ request s → printed o (granted st k q) ≡ performed st k s o
+unfolding performed deskLine
+by-request st k s o q h e = ap (λ z. printed o (granted st k z)) e ∙ sym (rw (le-leb paperBytes (length o) h))
+
+-- where there is room for any line, the store is the line's
+pub performed-store : (st : Store) (k : ℕ) (s o : List ℕ) (x : Store × (ℕ × List ℕ)) → paperBytes ≤ length o → x ≡ performed st k s o → x .0 ≡ deskLine st k s .0
+unfolding performed
+performed-store st k s o x h e = ap (λ (y : Store × (ℕ × List ℕ)). y .0) e ∙ (rw (le-leb paperBytes (length o) h))
+
+written-end : (o b : List ℕ) → written o 0 b .0 ≤ length o
+unfolding written
+written-end o b = go (leb (0 + length b) (length o)) refl
+  where
+    go : (u : Bool) → leb (0 + length b) (length o) ≡ u → cond {A = ℕ × List ℕ} u (0 + length b, paste o 0 b (length b)) (0, o) .0 ≤ length o
+    go true e = leb-true (0 + length b) (length o) e
+    go false e = omega arith
+
+-- what is printed is within the buffer
+pub performed-end : (st : Store) (k : ℕ) (s o : List ℕ) (x : Store × (ℕ × List ℕ)) → paperBytes ≤ length o → x ≡ performed st k s o → x .1 .0 ≤ length o
+unfolding performed
+performed-end st k s o x h e =
+    subst (λ n. n ≤ length o) (sym (ap (λ (y : Store × (ℕ × List ℕ)). y .1 .0) e ∙ (rw (le-leb paperBytes (length o) h)))) (written-end o (deskLine st k s .1))

@@ -1,0 +1,78 @@
+-- `control::call` meets its contract.
+use Prim.Native.Nat.{_+_}
+use native.Mathlib.Omega.{arith}
+use lib.ListN.{length-set}
+use denote.Ref.{now}
+use borrow.Author.Tests.{lt-ltb, le-ltb, eq-eqb, ne-eqb}
+use borrow.Author.Needs.{needs}
+use Rattle.language.specs.Effects.{onCall}
+use Rattle.operands.proofs.OperandsDecoding.{call-read}
+use Rattle.operands.proofs.Held.{length-frames, frames-push}
+use Rattle.control.proofs.call.Statement.{statement}
+use Rattle.control.proofs.call.Tie as tie
+
+returns : tie.Need-returns
+returns c =
+    record { turns = λ h. rw (c .stop .ensures, call-read, ← c .before .before .exit-of .ensures, eq-eqb _ _ (c .before .if1 .taken)); size = c .before .before .before .pre .size }
+
+returns-2 : tie.Need-returns-2
+returns-2 c =
+    record {
+      turns = λ h. rw (c .stop2 .ensures, call-read, ← c .before .before .before .before .exit-of .ensures, ne-eqb _ _ (c .before .before .before .if1 .left), eq-eqb _ _ (c .before .if2 .taken));
+      size = c .before .before .before .before .before .pre .size;
+    }
+
+returns-3 : tie.Need-returns-3
+unfolding onCall
+returns-3 c =
+    record {
+      turns = λ h. rw (c .stop3 .ensures, call-read, ← c .before .before .before .before .before .before .exit-of .ensures, ne-eqb _ _ (c .before .before .before .before .before .if1 .left), ne-eqb _ _ (c .before .before .before .if2 .left), eq-eqb _ _ (c .before .if3 .taken));
+      size = c .before .before .before .before .before .before .before .pre .size;
+    }
+
+returns-4 : tie.Need-returns-4
+unfolding onCall
+returns-4 c =
+    let s = c .before .before .before .before .before .before .before .before .before in
+    let m = s .args .m in
+    let fr = now (s .args .frames) in
+    record {
+      turns = λ h.
+          rw (
+            call-read,
+            ← c .before .before .before .before .before .before .before .before .exit-of .ensures,
+            ne-eqb _ _ (c .before .before .before .before .before .before .before .if1 .left),
+            ne-eqb _ _ (c .before .before .before .before .before .if2 .left),
+            ne-eqb _ _ (c .before .before .before .if3 .left),
+            length-frames fr (m .depth),
+            lt-ltb _ _ (c .before .before .if4 .taken),
+            frames-push fr (m .depth) (m .letter) (m .at + 2) (c .before .before .before .before .before .before .before .before .exit-of .result) (omega arith),
+          );
+      size = simp length-set (s .pre .size);
+    }
+
+returns-5 : tie.Need-returns-5
+unfolding onCall
+returns-5 c =
+    let s = c .before .before .before .before .before .before .before .before in
+    record {
+      turns = λ h.
+          rw (
+            c .stop4 .ensures,
+            call-read,
+            ← c .before .before .before .before .before .before .before .exit-of .ensures,
+            ne-eqb _ _ (c .before .before .before .before .before .before .if1 .left),
+            ne-eqb _ _ (c .before .before .before .before .if2 .left),
+            ne-eqb _ _ (c .before .before .if3 .left),
+            length-frames (now (s .args .frames)) (s .args .m .depth),
+            le-ltb _ _ (c .before .if4 .left),
+          );
+      size = s .pre .size;
+    }
+
+pub call-spec : {M : Type 1} → statement M
+call-spec =
+    tie.close (tie.spec (λ c κs. search needs) (λ c κs. search needs) returns (λ c κs. search needs) returns-2 (λ c. search needs) (λ c. search needs)
+    (λ c κs. search needs) returns-3 (λ c. search needs) (λ c. search needs) (λ c. search needs) (λ c. search needs) (λ c. search needs)
+    (λ c. search needs) (λ c. search needs) (λ c. search needs) (λ c. search needs) (λ c. search needs) (λ c. search needs) (λ c. search needs)
+    (λ c. search needs) (λ c. search needs) (λ c κs. search needs) returns-4 returns-5)

@@ -1,0 +1,2 @@
+// The dispatch of a turn to the instruction of the due cell.
+pub mod machine;

@@ -1,0 +1,2 @@
+// The emitter: the cells of one token after another.
+pub mod pass;

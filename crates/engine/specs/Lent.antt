@@ -1,0 +1,19 @@
+-- What the functions over lent arrays ask and answer.
+use mathlib.Core.Path.{_≡_}
+use Prim.Native.Nat.{ℕ, _+_, _≤_}
+use mathlib.Core.List.{List}
+use lib.IntN.{ℤ}
+use lib.ListN.{length}
+use Rattle.language.specs.declared.Table.{Table}
+use Rattle.language.specs.Limits.{maxCells, storeCells}
+use Rattle.book.specs.Store.{storeOf, withEntry}
+
+-- a table's cells fit into a store's from a base on
+pub record Room (cells : List ℤ) (base : ℕ) (table : List ℤ) : Type 0 where
+  pub fits : base + maxCells ≤ storeCells
+  pub all-cells : length cells ≡ storeCells
+  pub all-table : length table ≡ maxCells
+
+-- the entry of letter k becomes that of the table t, whatever the variables
+abbrev pub Puts : List ℤ → List ℕ → ℕ → Table → List ℤ → List ℕ → Type 0
+Puts c u k t c′ u′ = (v : List ℤ) → storeOf c′ u′ v ≡ withEntry (storeOf c u v) k (record { table = t })

@@ -1,0 +1,171 @@
+-- The loop: what a turn of the code keeps, what falls, and what the end says.
+use mathlib.Core.Path.{_≡_, refl, sym, ap, _∙_, subst}
+use mathlib.Core.Bool.{Bool, true, false, cond, not}
+use mathlib.Core.List.{List, [], _∷_}
+use Prim.Native.Nat.{ℕ, zero, suc, _+_, _≤_, _<_}
+use native.Mathlib.Omega.{arith}
+use lib.Dec.{eqb, ltb}
+use lib.IntN.{ℤ}
+use lib.ListN.{length, getD}
+use borrow.Author.Tests.{ltb-true, ltb-false, lt-ltb, eq-eqb, ne-eqb, eqb-true, eqb-false}
+use Rattle.language.specs.declared.Ending.the-variants.{Damaged}
+use Rattle.language.specs.Answers.{endingNumber}
+use Rattle.language.specs.Limits.{maxLetters}
+use Rattle.language.specs.Meaning.{Outcome, ended, stopped}
+use Rattle.language.specs.Statements.{Lent}
+use Rattle.language.specs.Tables.{decodeAt, standsAt}
+use Rattle.book.specs.Replies.{replied, reported}
+use Rattle.operands.specs.declared.Machine.{Machine}
+use Rattle.operands.specs.Loop.{Turn, continues, finishes}
+use Rattle.operands.specs.Held.{Held, frameNumbers, stateOf, spotOf, endingOf, outcome}
+use Rattle.operands.specs.Turns.{turnOf}
+use Rattle.operands.proofs.Held.{length-frames, ending-known, ending-high}
+use Rattle.interpreter.specs.Runs.{figuresOf, Driven}
+use Rattle.interpreter.proofs.Loop.{after, toGo, Fit, Kept, Sound, turn-run, turn-sound}
+
+-- what the loop keeps of what the code holds: the run comes to r, within the allowance n, the limits and the output o
+pub record Looping (n : ℕ) (o : List ℕ) (r : Outcome) (h : Held) : Type 0 where
+  pub comes : after (decodeAt (h .cells) (h .used)) (standsAt (h .used)) (outcome h) ≡ r
+  pub kept : Kept n o (outcome h)
+  pub size : length (h .frames) ≡ frameNumbers
+
+-- the code goes on
+going : (h : Held) → h .machine .state ≡ 0 → outcome h ≡ continues (spotOf h)
+going h e = rw (eq-eqb _ _ e)
+
+kept-of : (n : ℕ) (o : List ℕ) (g : ℕ) (t : Turn) → Sound n o g t → Kept n o t
+kept-of n o g (continues m) h = h .0
+kept-of n o g (finishes (ended t s r)) h = h
+kept-of n o g (finishes (stopped k s r)) h = h
+
+-- where it goes on, the spot fits
+pub fit-of : (n : ℕ) (o : List ℕ) (h : Held) → h .machine .state ≡ 0 → Kept n o (outcome h) → Fit n o (spotOf h)
+fit-of n o h e k = subst (λ (t : Turn). Kept n o t) (going h e) k
+
+beyond : (u : List ℕ) (a : ℕ) → length u ≤ a → getD u a 0 ≡ 0
+beyond [] a h = refl
+beyond (x ∷ u) zero h = absurd (omega arith)
+beyond (x ∷ u) (suc a) h = beyond u a (omega arith)
+
+-- a letter that stands is one of 26
+standing : (u : List ℕ) → length u ≡ maxLetters → (a : ℕ) → standsAt u a ≡ true → a < maxLetters
+standing u e a s = go (ltb a maxLetters) refl
+  where
+    go : (t : Bool) → ltb a maxLetters ≡ t → a < maxLetters
+    go true q = ltb-true a maxLetters q
+    go false q =
+        let z : _≡_ {A = Bool} false true = sym (ap not (eq-eqb (getD u a 0) 0 (beyond u a (omega (arith, ltb-false a maxLetters q))))) ∙ s in
+        let k : _≡_ {A = ℕ} 0 1 = cc in
+        absurd (omega arith)
+
+-- what falls: nothing is left once the state is not 0
+unfoldable pub leftOver : Machine → ℕ
+leftOver m = cond (eqb (m .state) 0) (suc (m .left + m .left + m .depth)) 0
+
+-- ── a turn ──────────────────────────────────────────────────────────────────────────────────────
+
+module _ (n : ℕ) (o : List ℕ) (r : Outcome) (h : Held) (h′ : Held) (loop : Looping n o r h) (goes : h .machine .state ≡ 0) (turned : outcome h′ ≡ turnOf h)
+    (letters : length (h .used) ≡ maxLetters) where
+  comes-again : after (decodeAt (h .cells) (h .used)) (standsAt (h .used)) (outcome h′) ≡ r
+  unfolding after
+  comes-again =
+      let f = decodeAt (h .cells) (h .used) in
+      let s = standsAt (h .used) in
+      ap (λ (t : Turn). after f s t) turned ∙ sym (turn-run f s (spotOf h)) ∙ sym (ap (λ (t : Turn). after f s t) (going h goes)) ∙ loop .comes
+
+  sound : Sound n o (toGo (spotOf h)) (outcome h′)
+  sound =
+      subst (λ (t : Turn). Sound n o (toGo (spotOf h)) t) (sym turned)
+      (turn-sound n o (standsAt (h .used)) (standing (h .used) letters) (decodeAt (h .cells) (h .used)) (spotOf h) (fit-of n o h goes (loop .kept)))
+
+  -- it is kept
+  pub again : h′ .cells ≡ h .cells → h′ .used ≡ h .used → length (h′ .frames) ≡ frameNumbers → Looping n o r h′
+  again c u f =
+      record {
+        comes = rw (c, u) comes-again;
+        kept = kept-of n o (toGo (spotOf h)) (outcome h′) sound;
+        size = f;
+      }
+
+  -- and less is left
+  pub falls : leftOver (h′ .machine) < leftOver (h .machine)
+  unfolding leftOver
+  falls = rw (eq-eqb _ _ goes) (go (eqb (h′ .machine .state) 0) refl)
+    where
+      go : (u : Bool) → eqb (h′ .machine .state) 0 ≡ u
+          → cond u (suc (h′ .machine .left + h′ .machine .left + h′ .machine .depth)) 0 < suc (h .machine .left + h .machine .left + h .machine .depth)
+      go true q =
+          let k : toGo (spotOf h′) < toGo (spotOf h) = subst (λ (t : Turn). Sound n o (toGo (spotOf h)) t) (going h′ (eqb-true _ _ q)) sound .1 in
+          omega (arith, length-frames (h .frames) (h .machine .depth), length-frames (h′ .frames) (h′ .machine .depth))
+      go false q = omega arith
+
+-- ── the end ─────────────────────────────────────────────────────────────────────────────────────
+
+module _ (n : ℕ) (o : List ℕ) (r : Outcome) (h : Held) (loop : Looping n o r h) (over : h .machine .state ≡ 0 → ⊥) where
+  abbrev ending : Bool → Bool → Turn
+  ending a b =
+      cond a (finishes (ended true (stateOf h) (h .machine .left)))
+      (cond b (finishes (ended false (stateOf h) (h .machine .left)))
+      (finishes (stopped (endingOf (h .machine .state)) (stateOf h) (h .machine .left))))
+
+  ended-as : outcome h ≡ ending (eqb (h .machine .state) 1) (eqb (h .machine .state) 2)
+  ended-as = rw (ne-eqb _ _ over)
+
+  kept-as : Kept n o (ending (eqb (h .machine .state) 1) (eqb (h .machine .state) 2))
+  kept-as = subst (λ (t : Turn). Kept n o t) ended-as (loop .kept)
+
+  -- the list and the output are as a run leaves them
+  pub lent : Lent o (stateOf h)
+  lent = go (eqb (h .machine .state) 1) (eqb (h .machine .state) 2) kept-as
+    where
+      go : (a b : Bool) → Kept n o (ending a b) → Lent o (stateOf h)
+      go true b k = k .lent
+      go false true k = k .lent
+      go false false k = k .0 .lent
+
+  left-le : h .machine .left ≤ n
+  left-le = go (eqb (h .machine .state) 1) (eqb (h .machine .state) 2) kept-as
+    where
+      go : (a b : Bool) → Kept n o (ending a b) → h .machine .left ≤ n
+      go true b k = k .left
+      go false true k = k .left
+      go false false k = k .0 .left
+
+  -- a state above 2 is the number of the ending
+  known : 2 < h .machine .state → endingNumber (endingOf (h .machine .state)) ≡ h .machine .state
+  known l = go (eqb (h .machine .state) 1) (eqb (h .machine .state) 2) refl refl kept-as
+    where
+      go : (a b : Bool) → eqb (h .machine .state) 1 ≡ a → eqb (h .machine .state) 2 ≡ b → Kept n o (ending a b)
+          → endingNumber (endingOf (h .machine .state)) ≡ h .machine .state
+      go true b p q k = let e : h .machine .state ≡ 1 = eqb-true _ _ p in absurd (omega arith)
+      go false true p q k = let e : h .machine .state ≡ 2 = eqb-true _ _ q in absurd (omega arith)
+      go false false p q k = ending-known (h .machine .state) (k .1)
+
+  state-le : h .machine .state ≤ endingNumber Damaged
+  state-le = go (ltb 2 (h .machine .state)) refl
+    where
+      go : (u : Bool) → ltb 2 (h .machine .state) ≡ u → h .machine .state ≤ endingNumber Damaged
+      go true e = omega (arith, known (ltb-true _ _ e), ending-high (endingOf (h .machine .state)))
+      go false e = omega (arith, ltb-false 2 (h .machine .state) e)
+
+  reply : (v : List ℤ)
+      → replied (figuresOf n (h .machine)) (h .stack) (h .output) (cond (ltb 2 (h .machine .state)) v (h .variables)) ≡ reported v n r
+  unfolding after reported
+  reply v =
+      go (eqb (h .machine .state) 1) (eqb (h .machine .state) 2) refl refl
+      ∙ ap (λ (x : Outcome). reported v n x) (sym (ap (λ (t : Turn). after (decodeAt (h .cells) (h .used)) (standsAt (h .used)) t) ended-as) ∙ loop .comes)
+    where
+      go : (a b : Bool) → eqb (h .machine .state) 1 ≡ a → eqb (h .machine .state) 2 ≡ b
+          → replied (figuresOf n (h .machine)) (h .stack) (h .output) (cond (ltb 2 (h .machine .state)) v (h .variables))
+          ≡ reported v n (after (decodeAt (h .cells) (h .used)) (standsAt (h .used)) (ending a b))
+      go true b p q = let k : h .machine .state ≡ 1 = eqb-true _ _ p in rw k
+      go false true p q = let k : h .machine .state ≡ 2 = eqb-true _ _ q in rw k
+      go false false p q =
+          let a : h .machine .state ≡ 1 → ⊥ = eqb-false _ _ p in
+          let b : h .machine .state ≡ 2 → ⊥ = eqb-false _ _ q in
+          let l : 2 < h .machine .state = omega arith in
+          rw (lt-ltb 2 (h .machine .state) l, p, known l)
+
+  -- what the end says
+  pub driven : Driven n r (h .machine) (h .variables) (h .stack) (h .output)
+  driven = record { over = record { left = left-le; state = state-le }; reply = reply }

@@ -1,0 +1,58 @@
+-- What the cycle requires and ensures.
+use mathlib.Core.Path.{_≡_}
+use mathlib.Core.Bool.{cond}
+use mathlib.Core.List.{List}
+use Prim.Native.Nat.{ℕ, _-_, _≤_, _<_}
+use lib.IntN.{ℤ}
+use lib.ListN.{length}
+use lib.Dec.{ltb, eqb}
+use Rattle.language.specs.declared.Ending.the-variants.{Damaged}
+use Rattle.language.specs.Answers.{endingNumber}
+use Rattle.language.specs.Limits.{maxLetters, maxHeight}
+use Rattle.language.specs.Effects.{start}
+use Rattle.language.specs.Meaning.{Outcome}
+use Rattle.language.specs.Tables.{execute}
+use Rattle.book.specs.declared.Report.{Report}
+use Rattle.book.specs.Replies.{replied, reported}
+use Rattle.operands.specs.declared.Machine.{Machine}
+use Rattle.dispatch.specs.Turning.{Counted}
+
+-- a run of the letter with index a can be made over the used-cell counts u and the list's places p
+pub record Startable (a : ℕ) (u : List ℕ) (p : List ℤ) : Type 0 where
+  pub letter : a < maxLetters
+  pub letters : length u ≡ maxLetters
+  pub counted : Counted u
+  pub places : length p ≡ maxHeight
+
+-- the operand stack s fills the list's places p
+pub record Filling (p s : List ℤ) : Type 0 where
+  pub places : length p ≡ maxHeight
+  pub slots : length s ≡ maxHeight
+
+-- What a run comes to: of the letter with index a over the cells c and the used-cell counts u, with allowance n, variables v, inputs i and output o.
+abbrev pub ran : List ℤ → List ℕ → ℕ → ℕ → List ℤ → List ℤ → List ℕ → Outcome
+ran c u a n v i o = execute c u a n (start v i o)
+
+-- the figures that the machine's numbers come to once its state is not 0, after an allowance of n
+abbrev pub figuresOf : ℕ → Machine → Report
+figuresOf n m =
+    record {
+      number = cond (ltb 2 (m .state)) (m .state) 0;
+      truth = eqb (m .state) 1;
+      steps = n - m .left;
+      height = m .height;
+      taken = m .taken;
+      written = m .written;
+    }
+
+-- they can be reported
+pub record Over (n : ℕ) (m : Machine) : Type 0 where
+  pub left : m .left ≤ n
+  pub state : m .state ≤ endingNumber Damaged
+
+-- The run r is over with the machine's numbers m, the variables w, the list's places p and the output o. "Only a finished run changes variables; any
+-- other leaves them as before it."
+pub record Driven (n : ℕ) (r : Outcome) (m : Machine) (w p : List ℤ) (o : List ℕ) : Type 0 where
+  pub over : Over n m
+  pub reply : (v : List ℤ)
+      → replied (figuresOf n m) p o (cond (ltb 2 (m .state)) v w) ≡ reported v n r

@@ -1,0 +1,3 @@
+pub mod LexingBytes
+pub mod LexingSorts
+pub mod Lexing

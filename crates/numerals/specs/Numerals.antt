@@ -1,0 +1,54 @@
+-- Numbers as decimal bytes: read from a text, and written into a buffer.
+use mathlib.Core.Path.{_≡_}
+use Prim.Native.Nat.{ℕ, _+_, _^_, _≤_, _<_}
+use mathlib.Core.Bool.{Bool, false, cond}
+use mathlib.Core.List.{List}
+use lib.IntN.{ℤ, pos}
+use lib.ListN.{length, getD, take, drop, replicate}
+use lib.Seq.{paste}
+use lib.Dec.{leb}
+use Rattle.language.specs.Limits.{maxValue, writeWidth}
+use Rattle.language.specs.Decimals.{blankByte, isDigit, maxDigits}
+use Rattle.language.specs.Tokens.{signed}
+use Rattle.language.specs.Grammar.{Digits, digitBytes, valueFrom}
+use Rattle.numerals.specs.declared.Numeral.{Numeral}
+
+-- ── read ────────────────────────────────────────────────────────────────────────────────────────
+
+-- n digits of the value v stand at place `from` of the text s
+pub record DigitsAt (s : List ℕ) (from n v : ℕ) : Type 0 where
+  pub list : List ℕ
+  pub each : Digits list
+  pub counted : length list ≡ n
+  pub valued : valueFrom 0 list ≡ v
+  pub bytes : drop from s ≡ digitBytes list (drop (from + n) s)
+
+-- The digits that stand at place `from` of the text s, at most `most` and at most 9. Where there are fewer, no digit comes after them, or the text ends.
+pub record Reads (s : List ℕ) (from most : ℕ) (r : Numeral) : Type 0 where
+  pub stand : DigitsAt s from (r .count) (r .value)
+  pub few : r .count ≤ most
+  pub short : r .count ≤ maxDigits
+  pub below : r .value < 10 ^ r .count
+  pub inside : from ≤ length s → from + r .count ≤ length s
+  pub whole : r .count < most → r .count < maxDigits → from + r .count < length s → isDigit (getD s (from + r .count) 0) ≡ false
+
+-- a number, or its negative, where it is within the values; 0 where it is not
+abbrev pub valueOf : Bool → ℕ → ℤ
+valueOf minus n = cond (leb n maxValue) (signed minus n) (pos 0)
+
+-- ── written ─────────────────────────────────────────────────────────────────────────────────────
+
+-- The bytes b at a place of the buffer o: the place after them, and the buffer with them. Where they do not all fit, the place itself, and the buffer as it was.
+unfoldable pub written : List ℕ → ℕ → List ℕ → ℕ × List ℕ
+written o at b = cond (leb (at + length b) (length o)) (at + length b, paste o at b (length b)) (at, o)
+
+-- the columns that a number is rendered in: a `-` and ten digits fit
+abbrev pub maxColumns : ℕ
+maxColumns = writeWidth
+
+-- the bytes d are the last of a text of so many columns, from place k on, and blanks stand before them
+pub record Ends (text : List ℕ) (k : ℕ) (d : List ℕ) : Type 0 where
+  pub columns : length text ≡ maxColumns
+  pub room : k ≤ maxColumns
+  pub blanks : take k text ≡ replicate k blankByte
+  pub rest : drop k text ≡ d

@@ -1,0 +1,6 @@
+pub mod Values
+pub mod Ints
+pub mod Tables
+pub mod Operands
+pub mod Held
+pub mod OperandsDecoding

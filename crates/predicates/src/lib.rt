@@ -1,0 +1,3 @@
+// The instructions of predicates, calls aside: "`N 0 J`" and counters.
+pub mod conditions;
+pub mod counters;

@@ -1,0 +1,86 @@
+-- A scan that stops at the first element that fails a test.
+use mathlib.Core.Path.{_≡_, refl, sym, ap, _∙_, subst}
+use Prim.Native.Nat.{ℕ, suc, _+_, _<_}
+use native.Mathlib.Numerals.{add-one}
+use native.Mathlib.Omega.{arith}
+use mathlib.Core.Bool.{Bool, true, false, _&&_}
+use mathlib.Core.List.{List, [], _∷_}
+use lib.IntN.{ℤ, pos, negsuc}
+use lib.ListN.{length, getD, drop}
+use lib.Seq.{drop-cons, drop-length}
+use lib.Signed.{ltZ}
+use lib.Dec.{T}
+use borrow.Author.Tests.{ltb-true, ltb-false, le-leb, lt-leb}
+use Rattle.language.specs.Values.{isValue, lawful}
+use Rattle.language.specs.Tables.{soundUsed, soundCount}
+
+-- `all` says that every element passes `test`; before element i all have passed
+module _ {A : Type 0} (d : A) (test : A → Bool) (all : List A → Bool) (none : all [] ≡ true) (more : (x : A) (l : List A) → all (x ∷ l) ≡ test x && all l)
+    (l : List A) (i : ℕ) (inv : all l ≡ all (drop i l)) where
+  here : i < length l → all l ≡ test (getD l i d) && all (drop (suc i) l)
+  here lt = inv ∙ ap all (drop-cons l i d lt) ∙ more (getD l i d) (drop (suc i) l)
+
+  fails : i < length l → test (getD l i d) ≡ false → false ≡ all l
+  fails lt e = sym (here lt ∙ (rw e))
+
+  passes : i < length l → test (getD l i d) ≡ true → all l ≡ all (drop (i + 1) l)
+  passes lt e = here lt ∙ (rw (e, add-one i))
+
+  ends : i ≡ length l → true ≡ all l
+  ends e = sym (inv ∙ ap (λ n. all (drop n l)) e ∙ ap all (drop-length l) ∙ none)
+
+-- ── values ──────────────────────────────────────────────────────────────────────────────────────
+
+lawful-none : lawful [] ≡ true
+unfolding lawful
+lawful-none = refl
+
+lawful-more : (v : ℤ) (l : List ℤ) → lawful (v ∷ l) ≡ isValue v && lawful l
+unfolding lawful
+lawful-more v l = refl
+
+module _ (l : List ℤ) (i : ℕ) (inv : lawful l ≡ lawful (drop i l)) where
+  pub lawful-false : i < length l → isValue (getD l i (pos 0)) ≡ false → false ≡ lawful l
+  lawful-false = fails (pos 0) isValue lawful lawful-none lawful-more l i inv
+
+  pub lawful-on : i < length l → isValue (getD l i (pos 0)) ≡ true → lawful l ≡ lawful (drop (i + 1) l)
+  lawful-on = passes (pos 0) isValue lawful lawful-none lawful-more l i inv
+
+  pub lawful-end : i ≡ length l → true ≡ lawful l
+  lawful-end = ends (pos 0) isValue lawful lawful-none lawful-more l i inv
+
+-- the two tests of a value
+pub below : (z : ℤ) → ltZ z (negsuc 999999998) ≡ true → isValue z ≡ false
+unfolding isValue
+below (pos n) e = absurd (subst T (sym e) tt)
+below (negsuc n) e = let h = ltb-true 999999998 n e in lt-leb (suc n) 999999999 (omega arith)
+
+pub above : (z : ℤ) → ltZ (pos 999999999) z ≡ true → isValue z ≡ false
+unfolding isValue
+above (pos n) e = lt-leb n 999999999 (ltb-true 999999999 n e)
+above (negsuc n) e = absurd (subst T (sym e) tt)
+
+pub within : (z : ℤ) → ltZ z (negsuc 999999998) ≡ false → ltZ (pos 999999999) z ≡ false → isValue z ≡ true
+unfolding isValue
+within (pos n) e f = le-leb n 999999999 (ltb-false 999999999 n f)
+within (negsuc n) e f = let h = ltb-false 999999998 n e in le-leb (suc n) 999999999 (omega arith)
+
+-- ── used-cell counts ────────────────────────────────────────────────────────────────────────────
+
+used-none : soundUsed [] ≡ true
+unfolding soundUsed
+used-none = refl
+
+used-more : (n : ℕ) (l : List ℕ) → soundUsed (n ∷ l) ≡ soundCount n && soundUsed l
+unfolding soundUsed soundCount
+used-more n l = refl
+
+module _ (l : List ℕ) (i : ℕ) (inv : soundUsed l ≡ soundUsed (drop i l)) where
+  pub used-false : i < length l → soundCount (getD l i 0) ≡ false → false ≡ soundUsed l
+  used-false = fails 0 soundCount soundUsed used-none used-more l i inv
+
+  pub used-on : i < length l → soundCount (getD l i 0) ≡ true → soundUsed l ≡ soundUsed (drop (i + 1) l)
+  used-on = passes 0 soundCount soundUsed used-none used-more l i inv
+
+  pub used-end : i ≡ length l → true ≡ soundUsed l
+  used-end = ends 0 soundCount soundUsed used-none used-more l i inv
