@@ -11,7 +11,8 @@ use lib.Dec.{eqb}
 use Rattle.language.specs.Limits.{maxLevels}
 use borrow.Author.Tests.{eqb-true, eqb-false}
 use Rattle.assembler.specs.Exits.{Ahead, settled, filled}
-use Rattle.emitter.specs.Drafts.{exitOpen, endOpen, closeOpen, Cell, known, awaits, colonAt, fixupByte, colonByte, levelPlaces}
+use Rattle.emitter.specs.Drafts.{exitOpen, endOpen, closeOpen, Cell, known, awaits, colonAt, fixupByte, levelPlaces}
+use Rattle.language.specs.Bytes.{colonByte}
 use Rattle.assembler.proofs.ExitsLayout.{Back, with-at, before, backs}
 
 -- ── a cell in the arrays ────────────────────────────────────────────────────────────────────────

@@ -9,7 +9,8 @@ use Rattle.language.specs.Limits.{maxCells, maxLevels}
 use Rattle.language.specs.Letters.{letterByte}
 use Rattle.language.specs.Syntax.{printCode, Operation, operator, variable, constant, print, Predicate, condition, counter, Expr, close, semi, colon, operate, test, call, inner}
 use Rattle.language.specs.Layout.{afterOperation, afterPredicate, afterCall, afterExpr, falseExit, usedCells, opcode, byteCells, operationCells, predicateCells, exprCells, firstCell, codeStart, layout}
-use Rattle.emitter.specs.Drafts.{Cell, known, awaits, colonAt, fixupByte, colonByte, levelPlaces, Draft, more, put, lay}
+use Rattle.emitter.specs.Drafts.{Cell, known, awaits, colonAt, fixupByte, levelPlaces, Draft, more, put, lay}
+use Rattle.language.specs.Bytes.{colonByte}
 use Rattle.assembler.specs.Exits.{Ahead, ahead, filled, linkedCells}
 use Rattle.assembler.specs.Scanning.{Ready}
 use Rattle.assembler.proofs.ExitsLayout.{emit, backs, laid}

@@ -6,7 +6,8 @@ use lib.Dec.{eqb}
 use lib.ListN.{getD, set, replicate}
 use lib.IntN.{ℤ, pos}
 use Rattle.language.specs.Limits.{maxCells, maxLevels}
-use Rattle.emitter.specs.Drafts.{exitOpen, endOpen, closeOpen, fixupByte, colonByte, levelPlaces}
+use Rattle.emitter.specs.Drafts.{exitOpen, endOpen, closeOpen, fixupByte, levelPlaces}
+use Rattle.language.specs.Bytes.{colonByte}
 
 -- The cells, and for each level its false exit and the cell after its `)` cell, as they are ahead of a cell.
 pub record Ahead : Type 0 where

@@ -11,6 +11,7 @@ use lib.Seq.{paste, length-take-le}
 use lib.Dec.{leb}
 use borrow.Author.Tests.{le-leb, lt-leb, leb-true}
 use Rattle.language.specs.declared.Refusal.{Refusal}
+use Rattle.language.specs.Bytes.{newlineByte}
 use Rattle.language.specs.Limits.{maxHeight}
 use Rattle.language.specs.Letters.{letterIndex}
 use Rattle.language.specs.Effects.{start}
@@ -63,7 +64,7 @@ run-bounded st x = go (refusal (soundStore st) (standsAt (st .used)) (runs x))
 paper-most : (o : List ℕ) → length (paper o) ≤ length o + 1
 unfolding paper
 paper-most [] = omega arith
-paper-most (b ∷ o) = omega (arith, length-append (b ∷ o) (Printed.newlineByte ∷ []))
+paper-most (b ∷ o) = omega (arith, length-append (b ∷ o) (newlineByte ∷ []))
 
 -- a define or a withdraw c, which left the store st′ and answered n
 pub told-printed : (st st′ : Store) (k n : ℕ) (c : Call) (o o′ : List ℕ) (r : ℕ) → told st′ n c ≡ storeCall st c

@@ -7,7 +7,7 @@ use native.Mathlib.Omega.{arith}
 use lib.ListN.{length, getD, take, drop, set, drop-of-length-le}
 use lib.Seq.{length-take-le, take-suc-set, drop-cons}
 use borrow.Author.Tests.{lt-ltb, le-ltb, eq-eqb, ne-eqb}
-use Rattle.figures.specs.Printed.{newlineByte}
+use Rattle.language.specs.Bytes.{newlineByte}
 use Rattle.console.specs.Desk.{deskLine}
 use Rattle.book.specs.Store.{Store}
 use Rattle.desk.specs.declared.Desk.{Desk}

@@ -8,7 +8,7 @@ use lib.ListN.{length, take}
 use lib.Dec.{ltb, eqb}
 use Rattle.book.specs.Store.{Store}
 use Rattle.lines.specs.Lines.{maxLine}
-use Rattle.figures.specs.Printed.{newlineByte}
+use Rattle.language.specs.Bytes.{newlineByte}
 use Rattle.console.specs.Desk.{deskLine}
 use Rattle.desk.specs.declared.Desk.{Desk}
 

@@ -7,6 +7,7 @@ use lib.IntN.{ℤ, pos}
 use lib.ListN.{length, getD, set}
 use lib.Dec.{leb, ltb, eqb}
 use Rattle.language.specs.Limits.{maxText, maxLevels, maxCells, maxCounters, maxLimit}
+use Rattle.language.specs.Bytes.{closeByte, colonByte, semicolonByte}
 use Rattle.language.specs.Answers.{refusalNumber}
 use Rattle.language.specs.Syntax.{counterCode, printCode}
 use Rattle.language.specs.Layout.{opcode}
@@ -42,12 +43,8 @@ closeAt v = awaits closeOpen v
 -- the byte that the code keeps for what is open in a cell: `?`, `;` or `)`
 abbrev pub fixupByte : Fixup → ℕ
 fixupByte exitOpen = 63
-fixupByte endOpen = 59
-fixupByte closeOpen = 41
-
--- the same for a `:`
-abbrev pub colonByte : ℕ
-colonByte = 58
+fixupByte endOpen = semicolonByte
+fixupByte closeOpen = closeByte
 
 -- the places of an array by level: the level around the outermost expression, each level, and one more
 abbrev pub levelPlaces : ℕ

@@ -10,7 +10,6 @@ use Rattle.language.specs.Meaning.{meaning}
 use Rattle.language.proofs.Between.{between-bounds}
 use Rattle.book.specs.Calls.{Run, runs}
 use Rattle.book.specs.Replies.{Reply, reported}
-use Rattle.book.specs.Store as Definition
 use Rattle.book.specs.Store.{freshStore, storeCall}
 use Rattle.book.specs.History as Definitions
 use Rattle.book.specs.History.{answers, after, storeAnswers, standing, readText}

@@ -14,7 +14,8 @@ use Rattle.numerals.specs.Numerals.{written, maxColumns}
 use Rattle.numerals.proofs.Decimals.{justified-most, padded-most}
 use Rattle.numerals.proofs.Numerals.{written-room, written-no-room, written-two}
 use Rattle.figures.specs.declared.Figures.{Figures}
-use Rattle.figures.specs.Printed.{lineWidth, answerWidth, truthWidth, stepsWidth, heightWidth, topWidth, newlineByte, bit, figures, mostBytes, paper, top}
+use Rattle.figures.specs.Printed.{lineWidth, answerWidth, truthWidth, stepsWidth, heightWidth, topWidth, bit, figures, mostBytes, paper, top}
+use Rattle.language.specs.Bytes.{newlineByte}
 
 -- ── a line's figures ────────────────────────────────────────────────────────────────────────────
 

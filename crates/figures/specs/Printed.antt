@@ -5,6 +5,7 @@ use mathlib.Core.List.{List, [], _∷_, _++_}
 use lib.IntN.{ℤ, pos}
 use lib.ListN.{getD}
 use lib.Dec.{eqb}
+use Rattle.language.specs.Bytes.{newlineByte}
 use Rattle.language.specs.Decimals.{padded}
 use Rattle.numerals.specs.Numerals.{maxColumns}
 use Rattle.figures.specs.declared.Figures.{Figures}
@@ -32,10 +33,6 @@ heightWidth = 4
 -- "top"
 abbrev pub topWidth : ℕ
 topWidth = 11
-
--- the byte of a newline
-abbrev pub newlineByte : ℕ
-newlineByte = 10
 
 -- truth as it is printed
 abbrev pub bit : Bool → ℕ

@@ -10,7 +10,7 @@ use language::STORE_CELLS;
 use language::VARIABLES;
 use operands::Machine;
 use operands::cells::digit_at;
-use operands::cells::is_value;
+use validation::is_value;
 
 // A value is pushed, and the next cell is at.
 fn push(m: Machine, list: &mut [i32; HEIGHT], v: i32, at: usize) -> Machine

@@ -18,3 +18,4 @@ pub mod ReadingParsing
 pub mod TablesMeaning
 pub mod TokensComplete
 pub mod TokensSound
+pub mod Values

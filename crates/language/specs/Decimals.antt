@@ -1,27 +1,11 @@
 -- Numbers as decimal bytes, and right-justified in columns. "Numbers are in base ten."
-use Prim.Native.Nat.{ℕ, zero, suc, _+_, _-_, _/_, _%_}
+use Prim.Native.Nat.{ℕ, zero, suc, _-_, _/_, _%_}
 use mathlib.Core.Bool.{Bool, true, false, cond}
 use mathlib.Core.List.{List, [], _∷_, _++_}
 use lib.IntN.{ℤ, pos, negsuc}
 use lib.ListN.{length, replicate}
 use lib.Dec.{ltb}
-use Rattle.language.specs.Between.{between}
-
--- the byte of a blank
-abbrev pub blankByte : ℕ
-blankByte = 32
-
--- the byte of `-`
-abbrev pub minusByte : ℕ
-minusByte = 45
-
--- the byte of a digit
-abbrev pub digitByte : ℕ → ℕ
-digitByte d = 48 + d
-
--- the byte is a digit's
-abbrev pub isDigit : ℕ → Bool
-isDigit b = between (digitByte 0) (digitByte 9) b
+use Rattle.language.specs.Bytes.{blankByte, minusByte, digitByte}
 
 -- "1 to 9 digits": the most that a number has where it is read
 abbrev pub maxDigits : ℕ

@@ -11,6 +11,7 @@ use lib.Dec.{leb, ltb, eqb}
 use Rattle.language.specs.declared.Ending.{Ending}
 use Rattle.language.specs.declared.Ending.the-variants.{ListEmpty, ListFull, Range, ZeroDivisor, NoInput, PaperOut, NoText, DeepCalls}
 use Rattle.language.specs.Limits.{maxHeight, maxCounters, maxCalls, storeCounts, writeWidth, maxVariables}
+use Rattle.language.specs.Bytes.{newlineByte}
 use Rattle.language.specs.Values.{isValue}
 use Rattle.language.specs.Decimals.{padded}
 use Rattle.language.specs.Syntax.{Operator, absolute, discard, negate, copy, write, newline, input, add, subtract, multiply, divide, fetch, save}
@@ -145,7 +146,7 @@ operated divide s =
     needs 2 s (cond (eqb (natAbs (top s)) 0) (stops ZeroDivisor) (ranged (quotient (second s) (top s)) (combined s (quotient (second s) (top s)))))
 operated input s = inputted s
 operated write s = needs 1 s (emitted s (column (top s)))
-operated newline s = emitted s (10 ∷ [])
+operated newline s = emitted s (newlineByte ∷ [])
 
 -- "`Fk` pushes variable k; `Sk` stores the top and keeps it." Digit 10 is variable 0.
 unfoldable pub perform : Operation → State → Effect

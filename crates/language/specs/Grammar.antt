@@ -4,7 +4,9 @@ use Prim.Native.Nat.{ℕ, suc, _+_, _*_, _-_, _≤_, _<_, max}
 use mathlib.Core.Bool.{Bool, true, false}
 use mathlib.Core.List.{List, [], _∷_, _++_}
 use lib.ListN.{length}
-use Rattle.language.specs.Limits.{maxText, maxLevels, maxCells, maxCounters}
+use Rattle.language.specs.Limits.{maxText, maxLevels, maxCells, maxCounters, maxLetters}
+use Rattle.language.specs.Bytes.{blankByte, newlineByte, quoteByte, dollarByte, tickByte, openByte, closeByte, commaByte, minusByte, pointByte}
+use Rattle.language.specs.Bytes.{slashByte, digitByte, colonByte, semicolonByte}
 use Rattle.language.specs.Letters.{letterByte}
 use Rattle.language.specs.Syntax.{Operator, operatorByte, Access, accessByte, Condition, conditionByte, Operation, operator, variable, constant, print}
 use Rattle.language.specs.Syntax.{Predicate, condition, counter, Expr, close, semi, colon, operate, test, call, inner}
@@ -27,31 +29,31 @@ pub data Lexeme : Type 0 where
 -- digits as bytes, and then r
 abbrev pub digitBytes : List ℕ → List ℕ → List ℕ
 digitBytes [] r = r
-digitBytes (d ∷ l) r = (48 + d) ∷ digitBytes l r
+digitBytes (d ∷ l) r = digitByte d ∷ digitBytes l r
 
 -- a `-`, if there is one, and then r
 abbrev pub minusSign : Bool → List ℕ → List ℕ
-minusSign true r = 45 ∷ r
+minusSign true r = minusByte ∷ r
 minusSign false r = r
 
 -- a lexeme's bytes, and then r
 abbrev pub spell : Lexeme → List ℕ → List ℕ
-spell blank r = 32 ∷ r
-spell newline r = 10 ∷ r
-spell (comment c) r = 34 ∷ c ++ 34 ∷ r
-spell left r = 40 ∷ r
-spell right r = 41 ∷ r
-spell semicolon r = 59 ∷ r
-spell comma r = 44 ∷ r
-spell colon-sign r = 58 ∷ r
-spell point r = 46 ∷ r
+spell blank r = blankByte ∷ r
+spell newline r = newlineByte ∷ r
+spell (comment c) r = quoteByte ∷ c ++ quoteByte ∷ r
+spell left r = openByte ∷ r
+spell right r = closeByte ∷ r
+spell semicolon r = semicolonByte ∷ r
+spell comma r = commaByte ∷ r
+spell colon-sign r = colonByte ∷ r
+spell point r = pointByte ∷ r
 spell (operator-of o) r = operatorByte o ∷ r
-spell (variable-of a d) r = accessByte a ∷ (48 + d) ∷ r
+spell (variable-of a d) r = accessByte a ∷ digitByte d ∷ r
 spell (condition-of c) r = conditionByte c ∷ r
 spell (call-of a) r = letterByte a ∷ r
-spell (counter-of ds) r = 36 ∷ digitBytes ds (36 ∷ r)
-spell (constant-of s ds) r = 39 ∷ 47 ∷ minusSign s (digitBytes ds (39 ∷ r))
-spell (print-of b) r = 39 ∷ 39 ∷ b ++ 39 ∷ r
+spell (counter-of ds) r = dollarByte ∷ digitBytes ds (dollarByte ∷ r)
+spell (constant-of s ds) r = tickByte ∷ slashByte ∷ minusSign s (digitBytes ds (tickByte ∷ r))
+spell (print-of b) r = tickByte ∷ tickByte ∷ b ++ tickByte ∷ r
 
 -- the bytes of a list of lexemes
 abbrev pub spellAll : List Lexeme → List ℕ
@@ -93,7 +95,7 @@ Formed point = Unit {0}
 Formed (operator-of o) = Unit {0}
 Formed (variable-of a d) = d < 10
 Formed (condition-of c) = Unit {0}
-Formed (call-of a) = a < 26
+Formed (call-of a) = a < maxLetters
 Formed (counter-of ds) = Number counterForm ds × (1 ≤ valueFrom 0 ds)
 Formed (constant-of s ds) = Number (constantForm s) ds
 Formed (print-of b) = AllBytes printByte b

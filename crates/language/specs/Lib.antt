@@ -1,6 +1,7 @@
 pub mod Answers
 pub mod Limits
 pub mod Between
+pub mod Bytes
 pub mod Lookup
 pub mod Letters
 pub mod Values

@@ -8,7 +8,7 @@ use lib.ListN.{length, getD}
 use lib.Dec.{ltb, eqb}
 use Rattle.language.specs.declared.Table.{Table}
 use Rattle.language.specs.declared.Ending.the-variants.{Spent, Damaged}
-use Rattle.language.specs.Limits.{maxCounters, maxLimit}
+use Rattle.language.specs.Limits.{maxCounters, maxLimit, maxVariables}
 use Rattle.language.specs.Syntax.{Operator, operators, operatorByte, Access, accesses, accessByte, Condition, conditions, conditionByte}
 use Rattle.language.specs.Syntax.{counterCode, constantCode, printCode, Operation, operator, variable, constant, print, Predicate, condition, counter}
 use Rattle.language.specs.Between.{between}
@@ -94,7 +94,7 @@ unfoldable pub mark : Table → ℕ → Kind → Decoded
 unfolding sound natural minus exitAt bytesAt
 mark t q (isOperator o) = code (operateAt (operator o) (suc q))
 mark t q (isVariable a) =
-    room t (suc (suc q)) (natural (cell t (suc q)) (λ k. sound (between 1 10 k) (code (operateAt (variable a k) (suc (suc q))))))
+    room t (suc (suc q)) (natural (cell t (suc q)) (λ k. sound (between 1 maxVariables k) (code (operateAt (variable a k) (suc (suc q))))))
 mark t q isConstant =
     room t (suc (suc q)) (sound (isValue (cell t (suc q))) (code (operateAt (constant (cell t (suc q))) (suc (suc q)))))
 mark t q isPrint =

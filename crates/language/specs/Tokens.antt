@@ -8,6 +8,8 @@ use Rattle.language.specs.declared.Refusal.{Refusal}
 use Rattle.language.specs.declared.Refusal.the-variants.{StrayMark, BadCounter, BadConstant, Unfinished}
 use Rattle.language.specs.Between.{between}
 use Rattle.language.specs.Lookup.{lookup}
+use Rattle.language.specs.Bytes.{blankByte, newlineByte, quoteByte, dollarByte, tickByte, openByte, closeByte, commaByte, minusByte, pointByte}
+use Rattle.language.specs.Bytes.{slashByte, digitByte, colonByte, semicolonByte, isDigit}
 use Rattle.language.specs.Letters.{isLetter, letterIndex}
 use Rattle.language.specs.Syntax.{Operator, operators, operatorByte, Access, accesses, accessByte, Condition, conditions, conditionByte}
 use Rattle.language.specs.Syntax.{Operation, operator, variable, constant, print}
@@ -33,8 +35,8 @@ pub data Class : Type 0 where
 -- "Blank (32) and newline (10) are skipped between marks." "`;` or `,` (one meaning); `:` or `.` (one meaning)."
 abbrev pub classes : List (ℕ × Class)
 classes =
-    (32, blank) ∷ (10, blank) ∷ (34, quote) ∷ (40, opening) ∷ (41, closing) ∷ (59, semicolon) ∷ (44, semicolon) ∷ (58, point) ∷ (46, point)
-    ∷ (36, dollar) ∷ (39, tick)
+    (blankByte, blank) ∷ (newlineByte, blank) ∷ (quoteByte, quote) ∷ (openByte, opening) ∷ (closeByte, closing)
+    ∷ (semicolonByte, semicolon) ∷ (commaByte, semicolon) ∷ (colonByte, point) ∷ (pointByte, point) ∷ (dollarByte, dollar) ∷ (tickByte, tick)
     ∷ map (λ o. (operatorByte o, operating o)) operators
     ++ map (λ a. (accessByte a, accessing a)) accesses
     ++ map (λ c. (conditionByte c, comparing c)) conditions
@@ -45,11 +47,11 @@ class b = cond (isLetter b) (calling (letterIndex b)) (lookup classes stray b)
 
 -- "zero or more bytes 32 to 126 or 10 other than `"`"
 abbrev pub commentByte : ℕ → Bool
-commentByte b = cond (eqb b 34) false (cond (eqb b 10) true (between 32 126 b))
+commentByte b = cond (eqb b quoteByte) false (cond (eqb b newlineByte) true (between 32 126 b))
 
 -- "zero or more bytes 32 to 126 other than `'`"
 abbrev pub printByte : ℕ → Bool
-printByte b = cond (eqb b 39) false (between 32 126 b)
+printByte b = cond (eqb b tickByte) false (between 32 126 b)
 
 -- ── forms ───────────────────────────────────────────────────────────────────────────────────────
 
@@ -65,8 +67,8 @@ mostDigits (constantForm s) = 9
 
 -- the byte that ends a number's mark
 abbrev pub closingByte : Form → ℕ
-closingByte counterForm = 36
-closingByte (constantForm s) = 39
+closingByte counterForm = dollarByte
+closingByte (constantForm s) = tickByte
 
 -- "bad counter: a byte breaks its form"; "bad constant: a byte after `'/` breaks its form"
 abbrev pub formFault : Form → Refusal
@@ -129,14 +131,14 @@ numeral (constantForm s) v k = does (constant (signed s v)) ∷ k idle
 -- a byte of a number: a digit, its closing byte, or another
 unfoldable pub numbered : Bool → Bool → ℕ → Form → ℕ → ℕ → (Mode → List Token) → List Token
 unfolding unless numeral
-numbered true c b f n v k = unless (ltb n (mostDigits f)) (formFault f) (λ _. k (number f (suc n) (10 * v + (b - 48))))
+numbered true c b f n v k = unless (ltb n (mostDigits f)) (formFault f) (λ _. k (number f (suc n) (10 * v + (b - digitByte 0))))
 numbered false true b f n v k = unless (ltb 0 n) (formFault f) (λ _. numeral f v k)
 numbered false false b f n v k = fault (formFault f)
 
 -- a byte of a number, after n digits of the value v
 unfoldable pub scanNumber : Form → ℕ → ℕ → ℕ → (Mode → List Token) → List Token
 unfolding numbered
-scanNumber f n v b k = numbered (between 48 57 b) (eqb b (closingByte f)) b f n v k
+scanNumber f n v b k = numbered (isDigit b) (eqb b (closingByte f)) b f n v k
 
 -- a byte after `'/`: perhaps a `-`
 unfoldable pub slashed : Bool → ℕ → (Mode → List Token) → List Token
@@ -171,12 +173,12 @@ commented false false k = fault StrayMark
 unfoldable pub scan : Mode → ℕ → (Mode → List Token) → List Token
 unfolding class first scanNumber slashed ticked accessed printed commented
 scan idle b k = first (class b) k
-scan comment b k = commented (eqb b 34) (commentByte b) k
-scan after-tick b k = ticked (eqb b 39) (eqb b 47) k
-scan after-slash b k = slashed (eqb b 45) b k
-scan (after-access a) b k = accessed (between 48 57 b) a (b - 48) k
+scan comment b k = commented (eqb b quoteByte) (commentByte b) k
+scan after-tick b k = ticked (eqb b tickByte) (eqb b slashByte) k
+scan after-slash b k = slashed (eqb b minusByte) b k
+scan (after-access a) b k = accessed (isDigit b) a (b - digitByte 0) k
 scan (number f n v) b k = scanNumber f n v b k
-scan (printing l) b k = printed (eqb b 39) (printByte b) b l k
+scan (printing l) b k = printed (eqb b tickByte) (printByte b) b l k
 
 -- the end of the text; "unfinished: the text ends before its grammar does"
 unfoldable pub finish : Mode → List Token

@@ -10,7 +10,8 @@ use Rattle.language.specs.Syntax.{operatorByte, accessByte, conditionByte}
 use Rattle.language.specs.Letters.{letterByte}
 use Rattle.language.specs.Between.{between}
 use Rattle.language.specs.Tokens.{Class, blank, quote, opening, closing, semicolon, point, dollar, tick, stray, operating, accessing, comparing, calling, class}
-use Rattle.lexer.specs.Lexing.{blankByte, newlineByte, quoteByte, openByte, Inked, Stands, classRank, byteRank, kindRanked, kindOf}
+use Rattle.lexer.specs.Lexing.{Inked, Stands, classRank, byteRank, kindRanked, kindOf}
+use Rattle.language.specs.Bytes.{blankByte, newlineByte, openByte, quoteByte}
 use Rattle.lexer.specs.declared.Kind.{Kind}
 use Rattle.lexer.specs.declared.Kind.the-variants as K
 use Rattle.lexer.proofs.LexingBytes.{either, in-range}

@@ -11,6 +11,7 @@ use Rattle.language.specs.declared.Refusal.the-variants.{StrayMark}
 use Rattle.language.specs.Syntax.{operatorByte, accessByte, conditionByte, operator, variable, constant, print}
 use Rattle.language.specs.Tokens.{Token, opens, closes, semis, colons, begins, ends, does, asks, counts, calls, faults}
 use Rattle.language.specs.Between.{between}
+use Rattle.language.specs.Bytes.{blankByte, newlineByte, quoteByte, digitByte}
 use Rattle.language.specs.Limits.{maxLimit}
 use Rattle.language.specs.Letters.{letterByte}
 use Rattle.language.specs.Tokens.{Class, blank, quote, opening, closing, semicolon, point, dollar, tick, stray, operating, accessing, comparing, calling, class}
@@ -24,28 +25,6 @@ use Rattle.lexer.specs.declared.Skipped.{Skipped}
 use Rattle.lexer.specs.declared.Skipped.the-variants as S
 use Rattle.lexer.specs.declared.Number.{Number}
 use Rattle.lexer.specs.declared.Number.the-variants.{Value, Refused}
-
--- ── bytes ───────────────────────────────────────────────────────────────────────────────────────
-
--- the blank, which like the newline is "skipped between marks"
-abbrev pub blankByte : ℕ
-blankByte = 32
-
--- the newline
-abbrev pub newlineByte : ℕ
-newlineByte = 10
-
--- the `"` of a comment
-abbrev pub quoteByte : ℕ
-quoteByte = 34
-
--- the `(`
-abbrev pub openByte : ℕ
-openByte = 40
-
--- the byte of `0`
-abbrev pub digitZero : ℕ
-digitZero = 48
 
 -- ── the kind of a byte ──────────────────────────────────────────────────────────────────────────
 
@@ -103,7 +82,7 @@ refusalOf (Refused r) = r
 pub record Countable (s : List ℕ) (from most close : ℕ) : Type 0 where
   pub inside : from ≤ length s
   pub few : most ≤ mostDigits (constantForm false)
-  pub closing : close < digitZero
+  pub closing : close < digitByte 0
 
 -- the number v of form f, whose digits start at place `from` of the text s and whose closing byte stands before place n
 pub record NumberTo (s : List ℕ) (f : Form) (from v n : ℕ) : Type 0 where

@@ -10,7 +10,8 @@ use lib.ListN.{length, getD, set, take, drop, length-set}
 use lib.Seq.{length-take-le, take-suc-set}
 use lib.Dec.{ltb}
 use borrow.Author.Tests.{ltb-true, ltb-false}
-use Rattle.language.specs.Decimals.{blankByte, minusByte, maxDigits}
+use Rattle.language.specs.Decimals.{maxDigits}
+use Rattle.language.specs.Bytes.{blankByte, minusByte}
 use Rattle.numerals.specs.declared.Numeral.{Numeral}
 use Rattle.numerals.specs.Numerals.{Reads, valueOf}
 use Rattle.numerals.proofs.Numerals.{pow-up}

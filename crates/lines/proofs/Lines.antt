@@ -10,7 +10,8 @@ use lib.ListN.{length, getD, drop, drop-of-length-le}
 use lib.Seq.{drop-cons}
 use lib.Dec.{ltb, eqb}
 use borrow.Author.Tests.{eq-eqb, ne-eqb, le-leb, lt-leb, lt-ltb, le-ltb, ltb-true}
-use Rattle.language.specs.Decimals.{blankByte, minusByte, digitByte, isDigit, maxDigits}
+use Rattle.language.specs.Decimals.{maxDigits}
+use Rattle.language.specs.Bytes.{blankByte, digitByte, isDigit, minusByte}
 use Rattle.language.specs.Grammar.{Digits, digitBytes, valueFrom}
 use Rattle.language.proofs.Between.{between-ok}
 use Rattle.lines.specs.Lines.{maxLine, maxInputs, defineByte, withdrawByte, runByte, define, withdraw, run, bad, provided}

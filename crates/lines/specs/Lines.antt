@@ -5,7 +5,8 @@ use mathlib.Core.List.{List, [], _∷_, _++_}
 use lib.IntN.{ℤ}
 use lib.ListN.{length}
 use lib.Dec.{leb, ltb, eqb}
-use Rattle.language.specs.Decimals.{blankByte, minusByte, digitByte, isDigit, maxDigits}
+use Rattle.language.specs.Decimals.{maxDigits}
+use Rattle.language.specs.Bytes.{blankByte, digitByte, isDigit, minusByte}
 use Rattle.language.specs.Tokens.{signed}
 
 -- "lines to 300 bytes before the newline"

@@ -17,7 +17,8 @@ use Rattle.language.specs.Layout.{layout, cleared}
 use Rattle.language.specs.Reading.{refused, accepted, outside, whole, require, starting, ending, parse, read}
 use Rattle.linker.specs.declared.Linked.{Linked}
 use Rattle.assembler.specs.declared.scan.Scanned.{Scanned}
-use Rattle.lexer.specs.Lexing.{openByte, MarkAt}
+use Rattle.lexer.specs.Lexing.{MarkAt}
+use Rattle.language.specs.Bytes.{openByte}
 use Rattle.linker.specs.Linked.{linked}
 use Rattle.assembler.specs.Exits.{linkedCells, Fillable}
 use Rattle.assembler.specs.Scanning.{parsedFrom, Scans, stops, ends}

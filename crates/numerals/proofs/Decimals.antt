@@ -11,7 +11,8 @@ use lib.Signed.{ltZ}
 use lib.ListN.{length, set, take, drop, replicate, length-set, length-append, length-drop, length-replicate, take-append-drop}
 use lib.Seq.{append-snoc, drop-cons, drop-set-lt, getD-set-same, take-set-le, take-take}
 use borrow.Author.Tests.{lt-ltb, le-ltb, ltb-true, ltb-false}
-use Rattle.language.specs.Decimals.{blankByte, minusByte, digitByte, digits, decimals, decimal, justified, padded}
+use Rattle.language.specs.Decimals.{digits, decimals, decimal, justified, padded}
+use Rattle.language.specs.Bytes.{blankByte, digitByte, minusByte}
 use Rattle.numerals.specs.Numerals.{maxColumns, Ends}
 
 -- ── from the right ──────────────────────────────────────────────────────────────────────────────

@@ -10,7 +10,8 @@ use lib.ListN.{length, getD, set, take, drop, replicate, length-append, length-s
 use lib.Seq.{paste, paste-zero, paste-suc, drop-cons, drop-drop, take-all, take-length, take-paste, drop-paste, length-paste}
 use lib.Dec.{lit<, leb}
 use borrow.Author.Tests.{le-leb, lt-leb, leb-true}
-use Rattle.language.specs.Decimals.{blankByte, digitByte, isDigit, maxDigits, justified}
+use Rattle.language.specs.Decimals.{maxDigits, justified}
+use Rattle.language.specs.Bytes.{blankByte, digitByte, isDigit}
 use Rattle.language.specs.Grammar.{Digits, digitBytes, valueFrom}
 use Rattle.numerals.specs.declared.Numeral.{Numeral}
 use Rattle.numerals.specs.Numerals.{DigitsAt, Reads, written, maxColumns, Ends}

@@ -8,7 +8,8 @@ use lib.ListN.{length, getD, take, drop, replicate}
 use lib.Seq.{paste}
 use lib.Dec.{leb}
 use Rattle.language.specs.Limits.{maxValue, writeWidth}
-use Rattle.language.specs.Decimals.{blankByte, isDigit, maxDigits}
+use Rattle.language.specs.Decimals.{maxDigits}
+use Rattle.language.specs.Bytes.{blankByte, isDigit}
 use Rattle.language.specs.Tokens.{signed}
 use Rattle.language.specs.Grammar.{Digits, digitBytes, valueFrom}
 use Rattle.numerals.specs.declared.Numeral.{Numeral}

@@ -7,7 +7,8 @@ ghost use lib.Dec.{leb};
 ghost use lib.IntN.{natAbs};
 ghost use lib.ListN.{replicate};
 ghost use Rattle.language.specs.Limits.{writeWidth};
-ghost use Rattle.language.specs.Decimals.{blankByte, digitByte, decimals, justified, padded};
+ghost use Rattle.language.specs.Decimals.{decimals, justified, padded};
+ghost use Rattle.language.specs.Bytes.{blankByte, digitByte};
 ghost use Rattle.numerals.specs.Numerals.{Reads, valueOf, Ends, written};
 
 // The most digits that are read as one number.

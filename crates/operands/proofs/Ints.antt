@@ -6,12 +6,16 @@ use native.Mathlib.Nat.{le-refl, div-le-self, mul-le-mul}
 use native.Mathlib.Omega.{arith}
 use lib.Dec.{T, ltb, eqb}
 use lib.IntN.{ℤ, pos, negsuc, negℤ, natAbs, _+ℤ_, _-ℤ_, _*ℤ_, +ℤ-idl, +ℤ-invr, -ℤ-+ℤ-cancel}
-use lib.Signed.{ltZ, quotZ, natAbs-le}
+use lib.Signed.{mag, ltZ, quotZ, natAbs-le}
 use mir.Syntax.{w32, w64}
 use mir.Val.{SFits, toZ, ofZ}
 use mir.Facts.{toZ-ofZ}
 use borrow.Author.Tests.{ltb-true, eq-eqb, ne-eqb, eqb-true, eqb-false}
-use Rattle.operands.proofs.Values.{mag-le}
+
+-- a signed number's size is at most its distance from 0
+pub mag-le : (z : ℤ) → mag z ≤ natAbs z
+mag-le (pos n) = le-refl n
+mag-le (negsuc n) = omega arith
 
 -- a small number fits
 pub fits32 : (z : ℤ) → natAbs z ≤ 2147483647 → SFits w32 z

@@ -1,4 +1,3 @@
-pub mod Values
 pub mod Ints
 pub mod Tables
 pub mod Operands

@@ -5,15 +5,14 @@ use mathlib.Core.List.{List}
 use Prim.Native.Nat.{ℕ, zero, suc, _+_, _-_, _<_, _≤_}
 use native.Mathlib.Omega.{arith}
 use lib.Dec.{T, ltb}
-use lib.IntN.{ℤ, pos, negsuc, natAbs, _-ℤ_}
+use lib.IntN.{ℤ, pos, negsuc, negℤ, natAbs, _-ℤ_}
 use lib.ListN.{length, getD}
 use lib.Signed.{ltZ, nonNeg}
 use mir.Syntax.{w8, w32, w64}
 use mir.Val.{SFits, Fits}
 use borrow.Author.Tests.{lt-ltb, le-ltb, ltb-true, ltb-false, le-leb, lt-leb, eq-eqb, ne-eqb}
-use Rattle.language.specs.Limits.{maxLimit}
 use Rattle.language.specs.Syntax.{constantCode}
-use Rattle.operands.specs.Operands.{transferByte, endByte, targetOf, boundedOf, limitOf, byteOf, printOf, printsFrom, printable}
+use Rattle.operands.specs.Operands.{transferByte, targetOf, boundedOf, negatedOf, byteOf, printOf, printsFrom, printable}
 
 wrong : {X : Type 0} → true ≡ false → X
 wrong e = absurd (subst T e tt)
@@ -77,26 +76,29 @@ unfolding boundedOf
 bounded-in m d (pos n) h e = simp (le-ltb m n h)
 bounded-in m d (negsuc n) h e = wrong e
 
--- a number that is not negative
-pub limit-high : (x : ℤ) → ltZ (negsuc 0) x ≡ true → 0 ≡ limitOf x
-unfolding limitOf
-limit-high (pos n) e = refl
-limit-high (negsuc n) e = let h = ltb-true n 0 e in absurd (omega arith)
+-- a number above 0
+pub negated-high : (m : ℕ) (x : ℤ) → ltZ (pos 0) x ≡ true → 0 ≡ negatedOf m x
+unfolding negatedOf
+negated-high m (pos n) e = refl
+negated-high m (negsuc n) e = wrong′ e
 
 -- a number below the lowest
-pub limit-low : (x : ℤ) → ltZ x (negsuc (maxLimit - 1)) ≡ true → 0 ≡ limitOf x
-unfolding limitOf
-limit-low (pos n) e = refl
-limit-low (negsuc n) e = let h = ltb-true (maxLimit - 1) n e in rw (le-ltb n maxLimit (omega arith))
+pub negated-low : (m : ℕ) (x : ℤ) → ltZ x (negℤ (pos m)) ≡ true → 0 ≡ negatedOf m x
+unfolding negatedOf
+negated-low m (pos n) e = refl
+negated-low zero (negsuc n) e = rw (le-ltb n 0 (omega arith))
+negated-low (suc m) (negsuc n) e = let h = ltb-true m n e in rw (le-ltb n (suc m) (omega arith))
 
--- a counter's number, negated
-pub negated : (x : ℤ) → ltZ (negsuc 0) x ≡ false → SFits w32 x → ltZ x (negsuc (maxLimit - 1)) ≡ false
-    → (T (nonNeg (pos 0 -ℤ x)) × (natAbs (pos 0 -ℤ x) ≤ maxLimit)) × (natAbs (pos 0 -ℤ x) ≡ limitOf x)
-unfolding limitOf
-negated (pos n) e f g = wrong e
-negated (negsuc n) e f g =
-    let h = ltb-false (maxLimit - 1) n g in
-    ((tt, omega arith), rw (lt-ltb n maxLimit (omega arith)) (omega arith))
+-- any other, negated
+pub negated-in : (m : ℕ) (x : ℤ) → ltZ (pos 0) x ≡ false → ltZ x (negℤ (pos m)) ≡ false
+    → (T (nonNeg (pos 0 -ℤ x)) × (natAbs (pos 0 -ℤ x) ≤ m)) × (natAbs (pos 0 -ℤ x) ≡ negatedOf m x)
+unfolding negatedOf
+negated-in m (pos zero) e g = ((tt, omega arith), refl)
+negated-in m (pos (suc n)) e g = let h = ltb-false 0 (suc n) e in absurd (omega arith)
+negated-in zero (negsuc n) e g = wrong g
+negated-in (suc m) (negsuc n) e g =
+    let h = ltb-false m n g in
+    ((tt, omega arith), rw (lt-ltb n (suc m) (omega arith)) (omega arith))
 
 at-most : (m d : ℕ) (t : Bool) (n : ℕ) → m ≤ d → ltb m n ≡ t → cond t d n ≤ d
 at-most m d true n h e = omega arith
@@ -115,21 +117,12 @@ byte-high (pos zero) e = wrong′ e
 byte-high (pos (suc n)) e = refl
 byte-high (negsuc n) e = wrong′ e
 
--- a cell below every mark's is none
-pub byte-low : (x : ℤ) → ltZ x (negsuc (constantCode - 1)) ≡ true → endByte ≡ byteOf x
+-- any other holds a mark's byte negated, or none
+pub byte-negated : (x : ℤ) → ltZ (pos 0) x ≡ false → negatedOf constantCode x ≡ byteOf x
 unfolding byteOf
-byte-low (pos n) e = wrong′ e
-byte-low (negsuc n) e = let h = ltb-true (constantCode - 1) n e in rw (le-ltb n constantCode (omega arith))
-
--- any other is the byte negated
-pub byte-in : (x : ℤ) → ltZ (pos 0) x ≡ false → ltZ x (negsuc (constantCode - 1)) ≡ false
-    → (T (nonNeg (pos 0 -ℤ x)) × (natAbs (pos 0 -ℤ x) ≤ constantCode)) × (natAbs (pos 0 -ℤ x) ≡ byteOf x)
-unfolding byteOf
-byte-in (pos zero) e g = ((tt, omega arith), refl)
-byte-in (pos (suc n)) e g = let h = ltb-false 0 (suc n) e in absurd (omega arith)
-byte-in (negsuc n) e g =
-    let h = ltb-false (constantCode - 1) n g in
-    ((tt, omega arith), rw (lt-ltb n constantCode (omega arith)) (omega arith))
+byte-negated (pos zero) e = refl
+byte-negated (pos (suc n)) e = let h = ltb-false 0 (suc n) e in absurd (omega arith)
+byte-negated (negsuc n) e = refl
 
 -- ── a byte says what the cell is ────────────────────────────────────────────────────────────────
 

@@ -19,7 +19,7 @@ use Rattle.language.specs.Values.{isValue}
 use Rattle.language.specs.Machine.{Instruction, transfer, fail, operateAt, testAt, callAt, Decoded, last, damaged, code, isConstant, isPrint, isCounter, isNone, isVariable, isCondition, isCall, kind}
 use Rattle.language.specs.Machine.{cell, sound, natural, minus, exitAt, bytesAt, mark, early, exactly, decode}
 use Rattle.language.specs.Tables.{tableFrom}
-use Rattle.operands.specs.Operands.{transferByte, endByte, byteOf, byteAt, targetOf, exitOf, boundedOf, digitOf, digitAt, orderOf, limitOf, extentOf}
+use Rattle.operands.specs.Operands.{transferByte, endByte, byteOf, byteAt, targetOf, exitOf, boundedOf, negatedOf, digitOf, digitAt, orderOf, limitOf, extentOf}
 use Rattle.operands.specs.Operands.{printOf, printsFrom, printable, counterAt, printAt}
 use Rattle.operands.proofs.Operands.{by-ltb, byte-mark, byte-transfer}
 use Rattle.operands.proofs.Tables.{cell-at}
@@ -45,7 +45,7 @@ exit-read t q i =
     (λ h. rw (lt-ltb (suc (suc q)) (t .used) (omega arith)) (target-read (cell t (suc q)) (t .used) i))
 
 limit-read : (z : ℤ) (k : ℕ → Decoded) → minus z (λ m. sound (ltb m maxLimit) (k m)) ≡ cond (eqb (limitOf z) 0) damaged (k (limitOf z - 1))
-unfolding minus sound limitOf
+unfolding minus sound negatedOf
 limit-read (pos n) k = refl
 limit-read (negsuc n) k =
     by-ltb n maxLimit (λ t. sound t (k n) ≡ cond (eqb (cond t (suc n) 0) 0) damaged (k (cond t (suc n) 0 - 1)))

@@ -20,11 +20,17 @@ transferByte = 255
 abbrev pub endByte : ℕ
 endByte = 0
 
+-- a number of at most m, which its cell holds negated, or 0
+unfoldable pub negatedOf : ℕ → ℤ → ℕ
+negatedOf m (pos n) = 0
+negatedOf m (negsuc n) = cond (ltb n m) (suc n) 0
+
 -- a mark's byte, of which a constant's code is the highest; or one of these two
 unfoldable pub byteOf : ℤ → ℕ
+unfolding negatedOf
 byteOf (pos zero) = endByte
 byteOf (pos (suc n)) = transferByte
-byteOf (negsuc n) = cond (ltb n constantCode) (suc n) endByte
+byteOf (negsuc n) = negatedOf constantCode (negsuc n)
 
 -- the same of the due cell; the second for the last two cells and for what is outside 2 to used
 unfoldable pub byteAt : Table → ℕ → ℕ
@@ -63,10 +69,9 @@ orderOf z = boundedOf (maxCounters - 1) maxCounters z
 abbrev pub extentOf : ℤ → ℕ
 extentOf z = boundedOf maxCells (maxCells + 1) z
 
--- a counter's number, which its cell holds negated, or 0
-unfoldable pub limitOf : ℤ → ℕ
-limitOf (pos n) = 0
-limitOf (negsuc n) = cond (ltb n maxLimit) (suc n) 0
+-- a counter's number, or 0
+abbrev pub limitOf : ℤ → ℕ
+limitOf z = negatedOf maxLimit z
 
 -- a byte of a print, or 0
 unfoldable pub printOf : ℤ → ℕ

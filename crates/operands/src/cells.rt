@@ -3,12 +3,10 @@
 ghost use mathlib.Core.Path.{_≡_};
 ghost use Prim.Native.Nat.{_+_, _≤_};
 ghost use Rattle.language.specs.Limits.{storeCells};
-ghost use Rattle.language.specs.Values.{isValue};
 ghost use Rattle.language.specs.Tables.{tableFrom};
-ghost use Rattle.operands.specs.Operands.{byteOf, byteAt, targetOf, exitOf, boundedOf, digitAt, limitOf, printOf, printable};
+ghost use Rattle.operands.specs.Operands.{byteOf, byteAt, targetOf, exitOf, boundedOf, digitAt, negatedOf, printOf, printable};
 ghost use Rattle.operands.specs.Ready.{Placed, Inside};
 use language::CONSTANT_CODE;
-use language::MOST_VALUE;
 use language::STORE_CELLS;
 use language::Table;
 use language::VARIABLES;
@@ -19,12 +17,21 @@ pub const TRANSFER: usize = 255;
 // The byte for what is neither a mark nor a transfer.
 pub const END: usize = 0;
 
-// The lowest cells of a mark's code and of a counter's number, which are held negated, and the lowest value.
-const LEAST_CODE: i32 = 0 - (CONSTANT_CODE as i32);
+// The highest number of a counter: "an n outside 1 to 9999".
+pub const MOST_LIMIT: u16 = 9999;
 
-const LEAST_LIMIT: i32 = -9999;
-
-const LEAST_VALUE: i32 = 0 - MOST_VALUE;
+// A number of at most `most`, which its cell holds negated, or 0: a mark's byte, a counter's number.
+pub fn negated(x: i32, most: u16) -> usize
+    ensures { λ r. ⌜ r ≡ negatedOf most x ⌝ }
+{
+    if 0 < x {
+        return 0;
+    }
+    if x < 0 - (most as i32) {
+        return 0;
+    }
+    (0 - x) as usize
+}
 
 // A mark's byte, TRANSFER, or END.
 fn byte(x: i32) -> usize
@@ -33,10 +40,7 @@ fn byte(x: i32) -> usize
     if 0 < x {
         return TRANSFER;
     }
-    if x < LEAST_CODE {
-        return END;
-    }
-    (0 - x) as usize
+    negated(x, CONSTANT_CODE as u16)
 }
 
 // The byte of the due cell; END for the last two cells, and for what is outside 2 to used.
@@ -78,19 +82,6 @@ pub fn exit_of(cells: &[i32; STORE_CELLS], base: usize, end: usize, at: usize) -
     target(cells[base + at], end)
 }
 
-// "Values lie in ±999,999,999."
-pub fn is_value(v: i32) -> bool
-    ensures { λ r. ⌜ r ≡ isValue v ⌝ }
-{
-    if v < LEAST_VALUE {
-        return false;
-    }
-    if MOST_VALUE < v {
-        return false;
-    }
-    true
-}
-
 // A number of at most `most`, or another: a variable's digit, a counter's order, a print's length.
 pub fn bounded(x: i32, most: usize, other: usize) -> usize
     ensures { λ r. ⌜ r ≡ boundedOf most other x ⌝ }
@@ -111,19 +102,6 @@ pub fn digit_at(cells: &[i32; STORE_CELLS], base: usize, end: usize, at: usize) 
         return 0;
     }
     bounded(cells[base + at], VARIABLES, 0)
-}
-
-// A counter's number, which its cell holds negated, or 0.
-pub fn limit(x: i32) -> usize
-    ensures { λ r. ⌜ r ≡ limitOf x ⌝ }
-{
-    if -1 < x {
-        return 0;
-    }
-    if x < LEAST_LIMIT {
-        return 0;
-    }
-    (0 - x) as usize
 }
 
 // A byte of a print, 32 to 126 other than `'`, or 0.

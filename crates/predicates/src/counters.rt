@@ -8,8 +8,9 @@ use language::Ending;
 use language::STORE_CELLS;
 use language::Table;
 use operands::Machine;
+use operands::cells::MOST_LIMIT;
 use operands::cells::bounded;
-use operands::cells::limit;
+use operands::cells::negated;
 use operands::cells::target;
 
 // A counter's "order in the text from 0".
@@ -30,7 +31,7 @@ pub fn counter(
     if end < at + 5 {
         return m.stop(Ending::Damaged);
     }
-    let n = limit(cells[base + at]);
+    let n = negated(cells[base + at], MOST_LIMIT);
     let k = bounded(cells[base + at + 1], LAST_ORDER, Table::COUNTERS);
     let f = target(cells[base + at + 2], end);
     if n == 0 {

@@ -1,16 +1,12 @@
 -- A scan that stops at the first element that fails a test.
-use mathlib.Core.Path.{_≡_, refl, sym, ap, _∙_, subst}
+use mathlib.Core.Path.{_≡_, refl, sym, ap, _∙_}
 use Prim.Native.Nat.{ℕ, suc, _+_, _<_}
 use native.Mathlib.Numerals.{add-one}
-use native.Mathlib.Omega.{arith}
 use mathlib.Core.Bool.{Bool, true, false, _&&_}
 use mathlib.Core.List.{List, [], _∷_}
-use lib.IntN.{ℤ, pos, negsuc}
+use lib.IntN.{ℤ, pos}
 use lib.ListN.{length, getD, drop}
 use lib.Seq.{drop-cons, drop-length}
-use lib.Signed.{ltZ}
-use lib.Dec.{T}
-use borrow.Author.Tests.{ltb-true, ltb-false, le-leb, lt-leb}
 use Rattle.language.specs.Values.{isValue, lawful}
 use Rattle.language.specs.Tables.{soundUsed, soundCount}
 
@@ -48,22 +44,6 @@ module _ (l : List ℤ) (i : ℕ) (inv : lawful l ≡ lawful (drop i l)) where
 
   pub lawful-end : i ≡ length l → true ≡ lawful l
   lawful-end = ends (pos 0) isValue lawful lawful-none lawful-more l i inv
-
--- the two tests of a value
-pub below : (z : ℤ) → ltZ z (negsuc 999999998) ≡ true → isValue z ≡ false
-unfolding isValue
-below (pos n) e = absurd (subst T (sym e) tt)
-below (negsuc n) e = let h = ltb-true 999999998 n e in lt-leb (suc n) 999999999 (omega arith)
-
-pub above : (z : ℤ) → ltZ (pos 999999999) z ≡ true → isValue z ≡ false
-unfolding isValue
-above (pos n) e = lt-leb n 999999999 (ltb-true 999999999 n e)
-above (negsuc n) e = absurd (subst T (sym e) tt)
-
-pub within : (z : ℤ) → ltZ z (negsuc 999999998) ≡ false → ltZ (pos 999999999) z ≡ false → isValue z ≡ true
-unfolding isValue
-within (pos n) e f = le-leb n 999999999 (ltb-false 999999999 n f)
-within (negsuc n) e f = let h = ltb-false 999999998 n e in le-leb (suc n) 999999999 (omega arith)
 
 -- ── used-cell counts ────────────────────────────────────────────────────────────────────────────
 

@@ -7,7 +7,7 @@ use mir.Syntax.{w64}
 use mir.Val.{toZ, ofZ}
 use mir.Facts.{toZ-ofZ}
 use Rattle.language.specs.Limits.{maxValue}
-use Rattle.operands.proofs.Values.{value-below, value-above, value-inside, inside}
+use Rattle.language.proofs.Values.{value-below, value-above, value-inside, inside}
 use Rattle.operands.proofs.Ints.{fits32}
 use Rattle.arithmetic.proofs.ranged.Statement.{statement}
 use Rattle.arithmetic.proofs.ranged.Tie as tie

@@ -7,7 +7,7 @@ use lib.Dec.{leb}
 use denote.Ref.{now}
 use borrow.Author.Needs.{needs}
 use borrow.Author.Tests.{leb-true, not-true, not-false}
-use Rattle.language.specs.Decimals.{blankByte}
+use Rattle.language.specs.Bytes.{blankByte}
 use Rattle.numerals.proofs.Numerals.{Pasting, pasting-none, pasting-more, pasting-done, written-no-room}
 use Rattle.numerals.proofs.write_blanks.Statement.{statement}
 use Rattle.numerals.proofs.write_blanks.Tie as tie

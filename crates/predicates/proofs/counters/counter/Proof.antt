@@ -36,11 +36,11 @@ module _ (c : tie.After-target) where
   read : (n i : ℕ) → i + 1 ≡ s .args .base + n → 0 < n → n ≤ maxCells → cell tab n ≡ getD (now (s .args .cells)) i (pos 0)
   read n i e h k = cell-at (now (s .args .cells)) (s .args .base) (s .args .end) n i h k e
 
-  limits : limitOf (cell tab (suc Q)) ≡ c .before .before .before .before .limit .result
+  limits : limitOf (cell tab (suc Q)) ≡ c .before .before .before .before .negated .result
   limits =
       let i = s .args .base + Q in
       let b : toZ w32 (ofZ w32 (getD (now (s .args .cells)) i (pos 0))) ≡ getD (now (s .args .cells)) i (pos 0) = search needs in
-      ap limitOf (read (suc Q) i (omega arith) (omega arith) (omega arith) ∙ sym b) ∙ sym (c .before .before .before .before .limit .ensures)
+      ap limitOf (read (suc Q) i (omega arith) (omega arith) (omega arith) ∙ sym b) ∙ sym (c .before .before .before .before .negated .ensures)
 
   orders : orderOf (cell tab (suc (suc Q))) ≡ c .before .before .bounded .result
   orders =
@@ -55,7 +55,7 @@ module _ (c : tie.After-target) where
       ap (λ (z : ℤ). targetOf z (tab .used)) (read (suc (suc (suc Q))) i (omega arith) (omega arith) (omega arith) ∙ sym b) ∙ sym (c .target .ensures)
 
   reading : mark tab Q isCounter
-      ≡ counterAt (tab .used) Q (c .before .before .before .before .limit .result) (c .before .before .bounded .result) (c .target .result)
+      ≡ counterAt (tab .used) Q (c .before .before .before .before .negated .result) (c .before .before .bounded .result) (c .target .result)
   reading = count-read tab Q ∙ λ i. counterAt (tab .used) Q (limits i) (orders i) (exits i)
 
   near : c .target .result ≤ maxCells
@@ -105,7 +105,7 @@ returns-6 c = λ h.
       c .go .ensures,
       reading (c .before .before .before .before .before .before .before .before .before) ∙ counter-good _ _ _ _ _ (c .before .before .before .before .before .before .before .before .before .before .before .before .before .before .before .if1 .left) (c .before .before .before .before .before .before .before .before .if2 .left) (c .before .before .before .before .before .before .before .if3 .left) (c .before .before .before .before .before .before .if4 .left),
       ne-eqb _ _ (c .before .before .before .before .if5 .left),
-      count-true (stateOf (counting (a .m) (now (a .counts)) h)) (a .m .letter) (c .before .before .before .before .before .before .before .before .before .before .before .before .before .limit .result) (c .before .before .before .before .before .before .before .before .before .before .before .bounded .result) (c .before .before .before .before .before .before .before .before .if2 .left) (c .before .if6 .taken),
+      count-true (stateOf (counting (a .m) (now (a .counts)) h)) (a .m .letter) (c .before .before .before .before .before .before .before .before .before .before .before .before .before .negated .result) (c .before .before .before .before .before .before .before .before .before .before .before .bounded .result) (c .before .before .before .before .before .before .before .before .if2 .left) (c .before .if6 .taken),
     )
 
 returns-7 : tie.Need-returns-7
@@ -125,7 +125,7 @@ returns-8 c = λ h.
       c .go2 .ensures,
       reading (c .before .before .before .before .before .before .before .before .before .before) ∙ counter-good _ _ _ _ _ (c .before .before .before .before .before .before .before .before .before .before .before .before .before .before .before .before .if1 .left) (c .before .before .before .before .before .before .before .before .before .if2 .left) (c .before .before .before .before .before .before .before .before .if3 .left) (c .before .before .before .before .before .before .before .if4 .left),
       ne-eqb _ _ (c .before .before .before .before .before .if5 .left),
-      count-false (stateOf (counting (a .m) (now (a .counts)) h)) (a .m .letter) (c .before .before .before .before .before .before .before .before .before .before .before .before .before .before .limit .result) (c .before .before .before .before .before .before .before .before .before .before .before .before .bounded .result) (c .before .before .before .before .before .before .before .before .before .if2 .left) (c .before .before .if6 .left),
+      count-false (stateOf (counting (a .m) (now (a .counts)) h)) (a .m .letter) (c .before .before .before .before .before .before .before .before .before .before .before .before .before .before .negated .result) (c .before .before .before .before .before .before .before .before .before .before .before .before .bounded .result) (c .before .before .before .before .before .before .before .before .before .if2 .left) (c .before .before .if6 .left),
     )
 
 pub counter-spec : {M : Type 1} → statement M

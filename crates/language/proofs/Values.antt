@@ -1,28 +1,22 @@
--- The numbers that a run works with: a bound on `natAbs` serves for range, fit and tests.
+-- The range of the values as the machine tests it: two comparisons of a signed number.
 use mathlib.Core.Path.{_≡_, sym, subst}
 use mathlib.Core.Bool.{true, false}
 use Prim.Native.Nat.{suc, _-_, _≤_}
-use native.Mathlib.Nat.{le-refl}
 use native.Mathlib.Omega.{arith}
 use lib.Dec.{T}
 use lib.IntN.{ℤ, pos, negsuc, natAbs}
-use lib.Signed.{mag, ltZ}
+use lib.Signed.{ltZ}
 use borrow.Author.Tests.{ltb-true, ltb-false, le-leb, lt-leb}
 use Rattle.language.specs.Limits.{maxValue}
 use Rattle.language.specs.Values.{isValue}
 
--- a signed number's size is at most its distance from 0
-pub mag-le : (z : ℤ) → mag z ≤ natAbs z
-mag-le (pos n) = le-refl n
-mag-le (negsuc n) = omega arith
-
--- the tests of the range as the machine makes them: a number below it, one above it, and one inside
+-- below it
 pub value-below : (z : ℤ) → ltZ z (negsuc (maxValue - 1)) ≡ true → isValue z ≡ false
 unfolding isValue
 value-below (pos n) e = absurd (subst T (sym e) tt)
 value-below (negsuc n) e = let h = ltb-true (maxValue - 1) n e in lt-leb (suc n) maxValue (omega arith)
 
--- above the range
+-- above it
 pub value-above : (z : ℤ) → ltZ (pos maxValue) z ≡ true → isValue z ≡ false
 unfolding isValue
 value-above (pos n) e = lt-leb n maxValue (ltb-true maxValue n e)
