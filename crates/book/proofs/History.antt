@@ -30,7 +30,7 @@ use Rattle.language.proofs.EffectsLawful.{Sane, lawful-zeros, lawful-execute}
 use Rattle.language.proofs.EffectsLent.{replicate-at}
 use Rattle.language.proofs.TablesMeaning.{length-layout, used-least, machine-meaning}
 use Rattle.book.specs.Calls.{Run, Call, defines, withdraws, runs}
-use Rattle.book.specs.Replies.{Reply, reported, tells}
+use Rattle.book.specs.Replies.{Reply, Answered, leaves, reported, tells}
 use Rattle.book.specs.Refusals.{refusal, answer}
 use Rattle.book.specs.Book.{Book, freshBook, textOf, isText, withText, obeyed, bookRan, bookAccepts, bookCall}
 use Rattle.book.specs.Book as TheBook
@@ -61,8 +61,8 @@ unfolding soundCount
 holds-count t none h = rw h
 holds-count t (some w) h =
     let p = used-least w in
-    let q = accepted-used (h .1 .0) w (h .1 .1) in
-    let e : t .used ≡ usedCells w = ap (λ (z : Table). z .used) (h .0) in
+    let q = accepted-used (h .text) w (h .reads) in
+    let e : t .used ≡ usedCells w = ap (λ (z : Table). z .used) (h .table) in
     rw (e, ne-eqb (usedCells w) 0 (omega arith), le-leb 3 (usedCells w) p, le-leb (usedCells w) maxCells q)
 
 -- such a store is never refused as 13
@@ -75,7 +75,7 @@ holds-stands : (st : Store) (a : ℕ) (x : Option Expr) → Holds (entryAt st a 
 holds-stands st a none h = rw h
 holds-stands st a (some w) h =
     let p = used-least w in
-    let e : getD (st .used) a 0 ≡ usedCells w = ap (λ (t : Table). t .used) (h .0) in
+    let e : getD (st .used) a 0 ≡ usedCells w = ap (λ (t : Table). t .used) (h .table) in
     rw (e, ne-eqb (usedCells w) 0 (omega arith))
 
 -- ── replacing an entry ──────────────────────────────────────────────────────────────────────────
@@ -84,7 +84,7 @@ holds-stands st a (some w) h =
 entry-holds : (t : List ℕ) (v : Reading) → read t ≡ v → Holds (entryOf (exprOf v) .table) (exprOf v)
 unfolding exprOf
 entry-holds t (refused r) e = refl
-entry-holds t (accepted w) e = (refl, (t, e))
+entry-holds t (accepted w) e = record { table = refl; text = t; reads = e }
 
 entry-full : (t : List ℕ) (v : Reading) → read t ≡ v → Full (entryOf (exprOf v))
 unfolding exprOf
@@ -129,16 +129,16 @@ module _ (st : Store) (b : Book) (a : ℕ) (e : Entry) (x : Option Expr) (ag : A
 -- ── one call ────────────────────────────────────────────────────────────────────────────────────
 
 -- the same answer, and they agree again
-pub record Both (x : Store × Reply) (y : Book × Reply) : Type 0 where
-  pub reply : x .1 ≡ y .1
-  pub agree : Agree (x .0) (y .0)
+pub record Both (x : Answered Store) (y : Answered Book) : Type 0 where
+  pub reply : x .reply ≡ y .reply
+  pub agree : Agree (x .kept) (y .kept)
 
 module _ (st : Store) (b : Book) (ag : Agree st b) where
-  both-tells : (n : ℕ) (c : Call) → Both (st, tells n c (st .variables)) (b, tells n c (b .variables))
+  both-tells : (n : ℕ) (c : Call) → Both (leaves st (tells n c (st .variables))) (leaves b (tells n c (b .variables)))
   both-tells n c = record { reply = ap (λ v. tells n c v) (ag .same); agree = ag }
 
   both-put : (c : Call) (a : ℕ) (e : Entry) (x : Option Expr) → a < maxLetters → Full e → Holds (e .table) x
-      → Both (withEntry st a e, tells 0 c (st .variables)) (withText b a x, tells 0 c (b .variables))
+      → Both (leaves (withEntry st a e) (tells 0 c (st .variables))) (leaves (withText b a x) (tells 0 c (b .variables)))
   both-put c a e x lt full h = record { reply = ap (λ v. tells 0 c v) (ag .same); agree = agree-put st b a e x ag lt full h }
 
   same-ran : (x : Run) (t : Option Expr) → textOf (b .texts) (letterIndex (x .letter)) ≡ t → isText t ≡ true → storeRan st x ≡ bookRan b x
@@ -163,7 +163,7 @@ module _ (st : Store) (b : Book) (ag : Agree st b) where
       (lawful-execute (st .cells) (st .used) (letterIndex (x .letter)) (x .allowance) (st .variables) (x .inputs) (x .output) (ag .values) h)
 
   both-run : (x : Run) → storeRan st x ≡ bookRan b x → lawful (storeRan st x .variables) ≡ true
-      → Both (TheStore.withVariables st (storeRan st x .variables), storeRan st x) (TheBook.withVariables b (bookRan b x .variables), bookRan b x)
+      → Both (leaves (TheStore.withVariables st (storeRan st x .variables)) (storeRan st x)) (leaves (TheBook.withVariables b (bookRan b x .variables)) (bookRan b x))
   unfolding TheStore.withVariables TheBook.withVariables
   both-run x e h =
       record {
@@ -227,7 +227,7 @@ unfolding answers
 answers-from [] st b ag = refl
 answers-from (c ∷ cs) st b ag =
     let k = both-call st b c ag in
-    let e = answers-from cs (storeCall st c .0) (bookCall b c .0) (k .agree) in
+    let e = answers-from cs (storeCall st c .kept) (bookCall b c .kept) (k .agree) in
     λ i. k .reply i ∷ e i
 
 -- From the fresh store every list of calls is answered as the book answers it.

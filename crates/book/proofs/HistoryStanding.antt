@@ -24,7 +24,7 @@ use Rattle.language.proofs.Between.{between-bounds}
 use Rattle.language.proofs.AnswersOccurring.{ProperOutcome, proper-meaning}
 use Rattle.language.proofs.EffectsLent.{replicate-at}
 use Rattle.book.specs.Calls.{Run, Call, defines, withdraws, runs}
-use Rattle.book.specs.Replies.{Reply, reported, tells}
+use Rattle.book.specs.Replies.{Reply, Answered, reported, tells}
 use Rattle.book.specs.Refusals.{tests, refusal, answer}
 use Rattle.book.specs.Book.{Book, freshBook, textOf, isText, withText, withVariables, obeyed, bookRan, bookAccepts, bookCall}
 use Rattle.book.specs.Store.{Store, freshStore, storeCall}
@@ -50,7 +50,7 @@ proper-obeyed b x none = refl
 proper-obeyed b x (some w) =
     proper-meaning (textOf (b .texts)) (suc (x .allowance)) (letterIndex (x .letter)) w 0 (start (b .variables) (x .inputs) (x .output)) (x .allowance)
 
-safe-accepts : (b : Book) (c : Call) → Safe (bookAccepts b c .1 .report .number)
+safe-accepts : (b : Book) (c : Call) → Safe (bookAccepts b c .reply .report .number)
 unfolding bookAccepts bookRan tells
 safe-accepts b (defines l t) = (λ e. omega arith, λ e. omega arith)
 safe-accepts b (withdraws l) = (λ e. omega arith, λ e. omega arith)
@@ -58,11 +58,11 @@ safe-accepts b (runs x) =
     safe-reported (b .variables) (x .allowance) (obeyed b x (textOf (b .texts) (letterIndex (x .letter))))
     (proper-obeyed b x (textOf (b .texts) (letterIndex (x .letter))))
 
-safe-call : (b : Book) (c : Call) → Safe (bookCall b c .1 .report .number)
+safe-call : (b : Book) (c : Call) → Safe (bookCall b c .reply .report .number)
 unfolding bookCall
 safe-call b c = go (refusal true (has b) c) refl
   where
-    go : (o : Option Refusal) → refusal true (has b) c ≡ o → Safe (answer o b (b .variables) c (bookAccepts b c) .1 .report .number)
+    go : (o : Option Refusal) → refusal true (has b) c ≡ o → Safe (answer o b (b .variables) c (bookAccepts b c) .reply .report .number)
     go none e = unfold answer in safe-accepts b c
     go (some r) e = unfold answer tells in safe-refusal (has b) c r e
 
@@ -71,7 +71,7 @@ unfolding answers
 never-book [] b = (tt, tt)
 never-book (c ∷ cs) b =
     let s = safe-call b c in
-    let h = never-book cs (bookCall b c .0) in
+    let h = never-book cs (bookCall b c .kept) in
     ((s .0, h .0), (s .1, h .1))
 
 pub never-damaged : NeverDamaged
@@ -149,7 +149,7 @@ module _ (b : Book) (l : ℕ) (x : Option (List ℕ)) (len : length (b .texts) �
   unfolding exprOf
   text-tracks t w e = subst (λ z. Tracks (some t) (exprOf z)) (sym e) e
 
-  tracks-accepted : (c : Call) → refusal true (has b) c ≡ none → Tracks (standsAfter l x c (bookAccepts b c .1)) (kept (bookAccepts b c .0) l)
+  tracks-accepted : (c : Call) → refusal true (has b) c ≡ none → Tracks (standsAfter l x c (bookAccepts b c .reply)) (kept (bookAccepts b c .kept) l)
   unfolding bookAccepts tells
   tracks-accepted (defines m t) e =
       let w = faultless (read t) (free-text true (has b) m t e) in
@@ -157,13 +157,13 @@ module _ (b : Book) (l : ℕ) (x : Option (List ℕ)) (len : length (b .texts) �
   tracks-accepted (withdraws m) e = tracks-put b l m x none none len (free-letter true (has b) (withdraws m) e) tt k
   tracks-accepted (runs y) e = rw (kept-run (bookRan b y .variables)) k
 
-  tracks-call : (c : Call) → Tracks (standsAfter l x c (bookCall b c .1)) (kept (bookCall b c .0) l)
+  tracks-call : (c : Call) → Tracks (standsAfter l x c (bookCall b c .reply)) (kept (bookCall b c .kept) l)
   unfolding bookCall
   tracks-call c = go (refusal true (has b) c) refl
     where
       go : (o : Option Refusal) → refusal true (has b) c ≡ o →
-          let y : Book × Reply = answer o b (b .variables) c (bookAccepts b c) in
-          Tracks (standsAfter l x c (y .1)) (kept (y .0) l)
+          let y : Answered Book = answer o b (b .variables) c (bookAccepts b c) in
+          Tracks (standsAfter l x c (y .reply)) (kept (y .kept) l)
       go none e = unfold answer in tracks-accepted c e
       go (some r) e = unfold answer in tracks-refused c r
 
@@ -173,13 +173,13 @@ unfolding answers after
 tracks-calls [] st b l x ag k = k
 tracks-calls (c ∷ cs) st b l x ag k =
     let h = both-call st b c ag in
-    tracks-calls cs (storeCall st c .0) (bookCall b c .0) l (standsAfter l x c (storeCall st c .1)) (h .agree)
+    tracks-calls cs (storeCall st c .kept) (bookCall b c .kept) l (standsAfter l x c (storeCall st c .reply)) (h .agree)
     (rw (h .reply) (tracks-call b l x (ag .texts) k c))
 
 agree-after : (cs : List Call) (st : Store) (b : Book) → Agree st b → Agree (storeAfter st cs) (after bookCall b cs)
 unfolding after
 agree-after [] st b ag = ag
-agree-after (c ∷ cs) st b ag = agree-after cs (storeCall st c .0) (bookCall b c .0) (both-call st b c ag .agree)
+agree-after (c ∷ cs) st b ag = agree-after cs (storeCall st c .kept) (bookCall b c .kept) (both-call st b c ag .agree)
 
 -- ── a run then ──────────────────────────────────────────────────────────────────────────────────
 
@@ -246,12 +246,12 @@ module _ (cs : List Call) where
 
   -- the book's answer to such a run
   run-answer : (x : Run) → Admissible x → (u : Bool) → has book (letterIndex (x .letter)) ≡ u
-      → storeCall (storeAfter freshStore cs) (runs x) .1
-      ≡ answer (elim u [ true ↦ none | false ↦ some NotStanding ]) book (book .variables) (runs x) (bookAccepts book (runs x)) .1
+      → storeCall (storeAfter freshStore cs) (runs x) .reply
+      ≡ answer (elim u [ true ↦ none | false ↦ some NotStanding ]) book (book .variables) (runs x) (bookAccepts book (runs x)) .reply
   unfolding bookCall
   run-answer x h u e =
       both-call (storeAfter freshStore cs) book (runs x) agreed .reply
-      ∙ ap (λ o. answer o book (book .variables) (runs x) (bookAccepts book (runs x)) .1) (only-standing x h u e)
+      ∙ ap (λ o. answer o book (book .variables) (runs x) (bookAccepts book (runs x)) .reply) (only-standing x h u e)
 
   reported-accepts : (v : List ℤ) (n : ℕ) (o : Outcome) → isRefusal (reported v n o .report .number) ≡ false
   unfolding reported
@@ -259,7 +259,7 @@ module _ (cs : List Call) where
   reported-accepts v n (stopped k s r) = ending-no-refusal k
 
   refused-by : (x : Run) → Admissible x → (y : Option (List ℕ)) (z : Option Expr) → textOf (book .texts) (letterIndex (x .letter)) ≡ z → Tracks y z
-      → isRefusal (storeCall (storeAfter freshStore cs) (runs x) .1 .report .number) ≡ isNone y
+      → isRefusal (storeCall (storeAfter freshStore cs) (runs x) .reply .report .number) ≡ isNone y
   refused-by x h none none e k =
       ap (λ (r : Reply). isRefusal (r .report .number)) (run-answer x h false (ap isText e)) ∙ (unfold answer tells in refl)
   refused-by x h none (some w) e k = absurd k
@@ -269,7 +269,7 @@ module _ (cs : List Call) where
       ∙ (unfold answer bookAccepts bookRan in reported-accepts (book .variables) (x .allowance) (obeyed book x (textOf (book .texts) (letterIndex (x .letter)))))
 
   obeyed-by : (x : Run) → Admissible x → (w : Expr) → textOf (book .texts) (letterIndex (x .letter)) ≡ some w
-      → storeCall (storeAfter freshStore cs) (runs x) .1
+      → storeCall (storeAfter freshStore cs) (runs x) .reply
       ≡ reported (book .variables) (x .allowance)
       (meaning (textOf (book .texts)) (suc (x .allowance)) (letterIndex (x .letter)) w 0 (start (book .variables) (x .inputs) (x .output)) (x .allowance))
   unfolding answer bookAccepts bookRan obeyed

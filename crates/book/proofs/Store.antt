@@ -21,7 +21,7 @@ use Rattle.language.specs.Tables.{tableAt, standsAt, execute, soundUsed}
 use Rattle.language.specs.Values.{lawful}
 use Rattle.language.proofs.Answers.{ending-no-refusal}
 use Rattle.book.specs.Calls.{Call, defines, withdraws, runs, lentList, lentOutput}
-use Rattle.book.specs.Replies.{plain, reported, tells}
+use Rattle.book.specs.Replies.{leaves, plain, reported, tells}
 use Rattle.book.specs.Refusals.{refusal, answer}
 use Rattle.book.specs.Store.{Store, withEntry, soundStore, storeRan, storeAccepts, storeCall, told}
 use Rattle.book.specs.Statements.{RefusalKeeps, EntrySame, EntryOther, EntryCommute}
@@ -177,7 +177,7 @@ unfolding reported
 reported-accepts v n (ended t s r) = refl
 reported-accepts v n (stopped e s r) = ending-no-refusal e
 
-accepts-accepts : (st : Store) (c : Call) → isRefusal (storeAccepts st c .1 .report .number) ≡ false
+accepts-accepts : (st : Store) (c : Call) → isRefusal (storeAccepts st c .reply .report .number) ≡ false
 unfolding storeAccepts tells
 accepts-accepts st (defines l t) = refl
 accepts-accepts st (withdraws l) = refl
@@ -190,17 +190,15 @@ pub refusal-keeps : RefusalKeeps
 unfolding storeCall
 refusal-keeps st c h = go (refusal (soundStore st) (standsAt (st .used)) c) h
   where
-    go : (o : Option Refusal) → isRefusal (answer o st (st .variables) c (storeAccepts st c) .1 .report .number) ≡ true
+    go : (o : Option Refusal) → isRefusal (answer o st (st .variables) c (storeAccepts st c) .reply .report .number) ≡ true
         → answer o st (st .variables) c (storeAccepts st c)
-        ≡ (
-          st,
-          record {
-            report = plain (answer o st (st .variables) c (storeAccepts st c) .1 .report .number);
-            list = lentList c;
-            output = lentOutput c;
-            variables = st .variables;
-          },
-        )
+        ≡ leaves st
+        (record {
+          report = plain (answer o st (st .variables) c (storeAccepts st c) .reply .report .number);
+          list = lentList c;
+          output = lentOutput c;
+          variables = st .variables;
+        })
     go none k = unfold answer in never (sym (accepts-accepts st c) ∙ k)
     go (some r) k = unfold answer tells in refl
 

@@ -13,7 +13,7 @@ use Rattle.language.specs.Reading.{read, exprOf}
 use Rattle.language.specs.Effects.{start}
 use Rattle.language.specs.Meaning.{Outcome, stopped, meaning}
 use Rattle.book.specs.Calls.{Run, Call, defines, withdraws, runs}
-use Rattle.book.specs.Replies.{Reply, reported, tells}
+use Rattle.book.specs.Replies.{Reply, Answered, leaves, reported, tells}
 use Rattle.book.specs.Refusals.{refusal, answer}
 
 -- "It keeps at most one text for each letter, and ten variables." A text is kept as the expression that it is read to.
@@ -25,7 +25,7 @@ pub record Book : Type 0 where
 unfoldable pub freshBook : Book
 freshBook = record { texts = replicate maxLetters none; variables = replicate maxVariables (pos 0) }
 
--- the text of letter a, and whether there is one: "To the book a cleared letter is one without a text."
+-- the text of letter a, if there is one: "To the book a cleared letter is one without a text."
 unfoldable pub textOf : List (Option Expr) → ℕ → Option Expr
 textOf ts a = getD ts a none
 
@@ -34,7 +34,7 @@ abbrev pub isText : Option Expr → Bool
 isText none = false
 isText (some w) = true
 
--- the book with another text of letter a, or with other variables
+-- the book with another text of letter a, or none
 unfoldable pub withText : Book → ℕ → Option Expr → Book
 withText b a x = record { texts = set (b .texts) a x; variables = b .variables }
 
@@ -56,13 +56,13 @@ bookRan b x = reported (b .variables) (x .allowance) (obeyed b x (textOf (b .tex
 
 -- A call that is not refused. "Any other define is accepted: its text replaces its letter's, answer 0." "Any other withdraw is accepted: its
 -- letter's text goes, answer 0." "If it finishes, the book keeps the variables it leaves."
-unfoldable pub bookAccepts : Book → Call → Book × Reply
+unfoldable pub bookAccepts : Book → Call → Answered Book
 unfolding tells withText withVariables bookRan read exprOf
-bookAccepts b (defines l t) = (withText b (letterIndex l) (exprOf (read t)), tells 0 (defines l t) (b .variables))
-bookAccepts b (withdraws l) = (withText b (letterIndex l) none, tells 0 (withdraws l) (b .variables))
-bookAccepts b (runs x) = (withVariables b (bookRan b x .variables), bookRan b x)
+bookAccepts b (defines l t) = leaves (withText b (letterIndex l) (exprOf (read t))) (tells 0 (defines l t) (b .variables))
+bookAccepts b (withdraws l) = leaves (withText b (letterIndex l) none) (tells 0 (withdraws l) (b .variables))
+bookAccepts b (runs x) = leaves (withVariables b (bookRan b x .variables)) (bookRan b x)
 
 -- any call
-unfoldable pub bookCall : Book → Call → Book × Reply
+unfoldable pub bookCall : Book → Call → Answered Book
 unfolding refusal answer bookAccepts textOf
 bookCall b c = answer (refusal true (λ a. isText (textOf (b .texts) a)) c) b (b .variables) c (bookAccepts b c)

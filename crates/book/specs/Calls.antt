@@ -21,7 +21,7 @@ pub data Call : Type 0 where
 abbrev pub running : ℕ → ℕ → List ℤ → List ℤ → List ℕ → Call
 running l n i p o = runs (record { letter = l; allowance = n; inputs = i; list = p; output = o })
 
--- the list places and output bytes that a call lends; define and withdraw lend none
+-- the list places that a call lends; define and withdraw lend none
 abbrev pub lentList : Call → List ℤ
 lentList (defines l t) = []
 lentList (withdraws l) = []

@@ -7,21 +7,21 @@ use lib.Dec.{eqb}
 use Rattle.language.specs.Syntax.{Expr}
 use Rattle.language.specs.Reading.{read, exprOf}
 use Rattle.book.specs.Calls.{Call, defines, withdraws, runs}
-use Rattle.book.specs.Replies.{Reply}
+use Rattle.book.specs.Replies.{Reply, Answered}
 use Rattle.book.specs.Book.{Book, bookCall}
 use Rattle.book.specs.Store.{Store, storeCall}
 
--- the answers to a list of calls of a store or a book, each later one the one returned; and the one that is left
-unfoldable pub answers : {S : Type 0} → (S → Call → S × Reply) → S → List Call → List Reply
+-- the answers to a list of calls of a store or a book, each later call of the one that the call before left
+unfoldable pub answers : {S : Type 0} → (S → Call → Answered S) → S → List Call → List Reply
 answers f s [] = []
-answers f s (c ∷ cs) = f s c .1 ∷ answers f (f s c .0) cs
+answers f s (c ∷ cs) = f s c .reply ∷ answers f (f s c .kept) cs
 
 -- the store or book that a list of calls leaves
-unfoldable pub after : {S : Type 0} → (S → Call → S × Reply) → S → List Call → S
+unfoldable pub after : {S : Type 0} → (S → Call → Answered S) → S → List Call → S
 after f s [] = s
-after f s (c ∷ cs) = after f (f s c .0) cs
+after f s (c ∷ cs) = after f (f s c .kept) cs
 
--- the answers of a store, and the store after them
+-- the answers of a store
 abbrev pub storeAnswers : Store → List Call → List Reply
 storeAnswers st cs = answers storeCall st cs
 

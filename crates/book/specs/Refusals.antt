@@ -14,7 +14,7 @@ use Rattle.language.specs.Letters.{isLetter, letterIndex}
 use Rattle.language.specs.Values.{lawful}
 use Rattle.language.specs.Reading.{Reading, refused, accepted, read}
 use Rattle.book.specs.Calls.{Call, defines, withdraws, runs}
-use Rattle.book.specs.Replies.{Reply, tells}
+use Rattle.book.specs.Replies.{Answered, leaves, tells}
 
 -- the refusal r, unless the test holds
 abbrev pub unless : Bool → Refusal → Option Refusal
@@ -49,7 +49,7 @@ module _ (sound : Bool) (stands : ℕ → Bool) where
 
 -- The answer to a call of s, a store or a book with the variables v, that is refused or else comes to x. "A call refused .. answers its number as
 -- said there and leaves the book, and any list and output, as they were."
-unfoldable pub answer : {S : Type 0} → Option Refusal → S → List ℤ → Call → S × Reply → S × Reply
+unfoldable pub answer : {S : Type 0} → Option Refusal → S → List ℤ → Call → Answered S → Answered S
 unfolding tells
 answer none s v c x = x
-answer (some r) s v c x = (s, tells (refusalNumber r) c v)
+answer (some r) s v c x = leaves s (tells (refusalNumber r) c v)

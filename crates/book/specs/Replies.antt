@@ -16,6 +16,15 @@ pub record Reply : Type 0 where
   pub output : List ℕ
   pub variables : List ℤ
 
+-- A call answered: the store, or the book, that it leaves, and what it returns beside it.
+pub record Answered (S : Type 0) : Type 0 where
+  pub kept : S
+  pub reply : Reply
+
+-- the two together
+abbrev pub leaves : {S : Type 0} → S → Reply → Answered S
+leaves s r = record { kept = s; reply = r }
+
 -- the figures r, with the list places, output and variables as the call leaves them
 abbrev pub replied : Report → List ℤ → List ℕ → List ℤ → Reply
 replied r p o v = record { report = r; list = p; output = o; variables = v }

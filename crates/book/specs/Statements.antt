@@ -13,7 +13,7 @@ use Rattle.language.specs.Syntax.{Expr}
 use Rattle.language.specs.Effects.{start}
 use Rattle.language.specs.Meaning.{meaning}
 use Rattle.book.specs.Calls.{Run, Call, runs, lentList, lentOutput}
-use Rattle.book.specs.Replies.{Reply, reported}
+use Rattle.book.specs.Replies.{Reply, leaves, reported}
 use Rattle.book.specs.Book.{freshBook}
 use Rattle.book.specs.Store.{Store, freshStore, Entry, entryAt, withEntry, storeCall}
 use Rattle.book.specs.History.{storeAnswers, storeAfter, bookAnswers, standing, readText}
@@ -23,17 +23,15 @@ use Rattle.book.specs.History.{storeAnswers, storeAfter, bookAnswers, st
 -- A refused call of any store leaves the store, the list and the output as they were, and every other figure is 0. proofs/Store `refusal-keeps`
 abbrev pub RefusalKeeps : Type 0
 RefusalKeeps =
-    (st : Store) (c : Call) → isRefusal (storeCall st c .1 .report .number) ≡ true
+    (st : Store) (c : Call) → isRefusal (storeCall st c .reply .report .number) ≡ true
     → storeCall st c
-    ≡ (
-      st,
-      record {
-        report = record { number = storeCall st c .1 .report .number; truth = false; steps = 0; height = 0; taken = 0; written = 0 };
-        list = lentList c;
-        output = lentOutput c;
-        variables = st .variables;
-      },
-    )
+    ≡ leaves st
+    (record {
+      report = record { number = storeCall st c .reply .report .number; truth = false; steps = 0; height = 0; taken = 0; written = 0 };
+      list = lentList c;
+      output = lentOutput c;
+      variables = st .variables;
+    })
 
 -- a store whose lists have room for 26 letters
 pub record Spacious (st : Store) : Type 0 where
@@ -83,7 +81,7 @@ pub record Admissible (x : Run) : Type 0 where
 
 -- the answer to a run after these calls
 abbrev pub runAfter : List Call → Run → Reply
-runAfter cs x = storeCall (storeAfter freshStore cs) (runs x) .1
+runAfter cs x = storeCall (storeAfter freshStore cs) (runs x) .reply
 
 -- no text stands
 abbrev pub isNone : Option (List ℕ) → Bool

@@ -17,7 +17,7 @@ use Rattle.language.specs.Effects.{start}
 use Rattle.language.specs.Tables.{tableAt, standsAt, execute, soundUsed}
 use Rattle.book.specs.Calls.{Run, Call, defines, withdraws, runs}
 use Rattle.book.specs.declared.Report.{Report}
-use Rattle.book.specs.Replies.{Reply, replied, reported, tells}
+use Rattle.book.specs.Replies.{Reply, Answered, leaves, replied, reported, tells}
 use Rattle.book.specs.Refusals.{refusal, answer}
 
 -- "A store holds 26 letters' tables with their used-cell counts, and ten variables": the cells of letter a are those from 250 a on
@@ -77,23 +77,23 @@ storeRan st x =
     (execute (st .cells) (st .used) (letterIndex (x .letter)) (x .allowance) (start (st .variables) (x .inputs) (x .output)))
 
 -- A call that is not refused. "Define replaces a letter's table. Withdraw clears it to 0." A run may change the variables.
-unfoldable pub storeAccepts : Store → Call → Store × Reply
+unfoldable pub storeAccepts : Store → Call → Answered Store
 unfolding tells withEntry withVariables storeRan read exprOf
-storeAccepts st (defines l t) = (withEntry st (letterIndex l) (entryOf (exprOf (read t))), tells 0 (defines l t) (st .variables))
-storeAccepts st (withdraws l) = (withEntry st (letterIndex l) (entryOf none), tells 0 (withdraws l) (st .variables))
-storeAccepts st (runs x) = (withVariables st (storeRan st x .variables), storeRan st x)
+storeAccepts st (defines l t) = leaves (withEntry st (letterIndex l) (entryOf (exprOf (read t)))) (tells 0 (defines l t) (st .variables))
+storeAccepts st (withdraws l) = leaves (withEntry st (letterIndex l) (entryOf none)) (tells 0 (withdraws l) (st .variables))
+storeAccepts st (runs x) = leaves (withVariables st (storeRan st x .variables)) (storeRan st x)
 
 -- any call
-unfoldable pub storeCall : Store → Call → Store × Reply
+unfoldable pub storeCall : Store → Call → Answered Store
 unfolding soundStore refusal answer storeAccepts
 storeCall st c = answer (refusal (soundStore st) (standsAt (st .used)) c) st (st .variables) c (storeAccepts st c)
 
 -- ── what a function of the program returned ─────────────────────────────────────────────────────
 
 -- a call that left the store st and returned the number n alone
-abbrev pub told : Store → ℕ → Call → Store × Reply
-told st n c = (st, tells n c (st .variables))
+abbrev pub told : Store → ℕ → Call → Answered Store
+told st n c = leaves st (tells n c (st .variables))
 
 -- a run that left the store st, the list places p and the output o, and returned the figures r
-abbrev pub answered : Store → Report → List ℤ → List ℕ → Store × Reply
-answered st r p o = (st, replied r p o (st .variables))
+abbrev pub answered : Store → Report → List ℤ → List ℕ → Answered Store
+answered st r p o = leaves st (replied r p o (st .variables))

@@ -19,11 +19,11 @@ use Rattle.language.specs.Meaning.{Outcome, ended, stopped}
 use Rattle.language.specs.Tables.{standsAt, execute}
 use Rattle.language.specs.Statements.{Lent, finalState}
 use Rattle.language.proofs.EffectsLent.{lent-parts}
-use Rattle.numerals.specs.Numerals.{written}
+use Rattle.numerals.specs.Numerals.{wrote, written}
 use Rattle.numerals.proofs.Numerals.{written-two}
 use Rattle.book.specs.declared.Report.{Report}
 use Rattle.book.specs.Calls.{Run, Call, runs, running}
-use Rattle.book.specs.Replies.{Reply, reported, tells}
+use Rattle.book.specs.Replies.{Reply, Answered, reported, tells}
 use Rattle.book.specs.Refusals.{refusal, answer}
 use Rattle.book.specs.Store.{Store, soundStore, storeRan, storeAccepts, storeCall, told, answered}
 use Rattle.lines.specs.Lines.{Request, run, request}
@@ -31,7 +31,7 @@ use Rattle.figures.specs.declared.Figures.{Figures}
 use Rattle.figures.specs.Printed as Printed
 use Rattle.figures.specs.Printed.{figures, paper, top}
 use Rattle.figures.proofs.Printed.{figures-most}
-use Rattle.console.specs.Desk.{outputBytes, paperBytes, ranFigures, shown, granted, deskLine, printed, performed}
+use Rattle.console.specs.Desk.{outputBytes, paperBytes, ranFigures, serves, shown, granted, deskLine, Performed, performs, printed, performed}
 
 -- ── a run's figures ─────────────────────────────────────────────────────────────────────────────
 
@@ -46,11 +46,11 @@ reported-bounded o v n (ended t s r) h = record { height = h .height; written = 
 reported-bounded o v n (stopped e s r) h = record { height = h .height; written = h .written }
 
 -- of a run of any store
-pub run-bounded : (st : Store) (x : Run) → Bounded (length (x .output)) (storeCall st (runs x) .1)
+pub run-bounded : (st : Store) (x : Run) → Bounded (length (x .output)) (storeCall st (runs x) .reply)
 unfolding storeCall
 run-bounded st x = go (refusal (soundStore st) (standsAt (st .used)) (runs x))
   where
-    go : (o : Option Refusal) → Bounded (length (x .output)) (answer o st (st .variables) (runs x) (storeAccepts st (runs x)) .1)
+    go : (o : Option Refusal) → Bounded (length (x .output)) (answer o st (st .variables) (runs x) (storeAccepts st (runs x)) .reply)
     go none =
         unfold answer storeAccepts storeRan in
         reported-bounded (x .output) (st .variables) (x .allowance)
@@ -68,11 +68,12 @@ paper-most (b ∷ o) = omega (arith, length-append (b ∷ o) (newlineByte ∷ []
 
 -- a define or a withdraw c, which left the store st′ and answered n
 pub told-printed : (st st′ : Store) (k n : ℕ) (c : Call) (o o′ : List ℕ) (r : ℕ) → told st′ n c ≡ storeCall st c
-    → (r, o′) ≡ written o 0 (figures (Printed.told k n))
-    → (st′, (r, o′)) ≡ printed o (storeCall st c .0, figures (Printed.told k (storeCall st c .1 .report .number)))
+    → wrote r o′ ≡ written o 0 (figures (Printed.told k n))
+    → performs st′ r o′ ≡ printed o (serves (storeCall st c .kept) (figures (Printed.told k (storeCall st c .reply .report .number))))
 unfolding tells
 told-printed st st′ k n c o o′ r e p =
-    (λ i. (st′, p i)) ∙ ap (λ (x : Store × Reply). (x .0, written o 0 (figures (Printed.told k (x .1 .report .number))))) e
+    (λ i. record { store = st′; paper = p i })
+    ∙ ap (λ (x : Answered Store). printed o (serves (x .kept) (figures (Printed.told k (x .reply .report .number))))) e
 
 -- a run that left the store st′, the list p and the output o, and reported r
 module _ (st st′ : Store) (k l n : ℕ) (i p : List ℤ) (o : List ℕ) (r : Report)
@@ -82,12 +83,12 @@ module _ (st st′ : Store) (k l n : ℕ) (i p : List ℤ) (o : List ℕ) (r : R
       let lent : List ℕ = replicate outputBytes 0 in
       let x : Run = record { letter = l; allowance = n; inputs = i; list = replicate maxHeight (pos 0); output = lent } in
       subst (λ m. Bounded m (record { report = r; list = p; output = o; variables = st′ .variables })) (length-replicate {A = ℕ} outputBytes 0)
-      (subst (λ (y : Store × Reply). Bounded (length lent) (y .1)) (sym e) (run-bounded st x))
+      (subst (λ (y : Answered Store). Bounded (length lent) (y .reply)) (sym e) (run-bounded st x))
 
   pub run-printed : (b : List ℕ) (v : ℤ) {m s : ℕ} {b₁ b₂ : List ℕ} → paperBytes ≤ length b → r .written ≤ length o → v ≡ top p (r .height)
-      → (m, b₁) ≡ written b 0 (figures (record { line = k; answer = r .number; truth = r .truth; steps = r .steps; height = r .height; top = v }))
-      → (s, b₂) ≡ written b₁ m (paper (take (r .written) o))
-      → (st′, (s, b₂)) ≡ printed b (granted st k (run l n i))
+      → wrote m b₁ ≡ written b 0 (figures (record { line = k; answer = r .number; truth = r .truth; steps = r .steps; height = r .height; top = v }))
+      → wrote s b₂ ≡ written b₁ m (paper (take (r .written) o))
+      → performs st′ s b₂ ≡ printed b (granted st k (run l n i))
   unfolding granted shown
   run-printed b v room w g h q =
       let f : Figures = record { line = k; answer = r .number; truth = r .truth; steps = r .steps; height = r .height; top = v } in
@@ -95,13 +96,13 @@ module _ (st st′ : Store) (k l n : ℕ) (i p : List ℤ) (o : List ℕ) (r : R
       let size = paper-most (take (r .written) o) in
       let len = length-take-le (r .written) o w in
       let z = bounded .written in
-      (λ j. (st′, written-two b 0 (figures f) (paper (take (r .written) o)) h q (omega arith) j))
-      ∙ ap (λ (y : ℤ). (st′, written b 0 (figures (record { line = k; answer = r .number; truth = r .truth; steps = r .steps; height = r .height; top = y }) ++ paper (take (r .written) o)))) g
-      ∙ ap (λ (x : Store × Reply). printed b (x .0, figures (ranFigures k (x .1)) ++ paper (take (x .1 .report .written) (x .1 .output)))) e
+      (λ j. record { store = st′; paper = written-two b 0 (figures f) (paper (take (r .written) o)) h q (omega arith) j })
+      ∙ ap (λ (y : ℤ). printed b (serves st′ (figures (record { line = k; answer = r .number; truth = r .truth; steps = r .steps; height = r .height; top = y }) ++ paper (take (r .written) o)))) g
+      ∙ ap (λ (x : Answered Store). printed b (serves (x .kept) (figures (ranFigures k (x .reply)) ++ paper (take (x .reply .report .written) (x .reply .output))))) e
 
 -- ── a line ──────────────────────────────────────────────────────────────────────────────────────
 
-pub no-room : (st : Store) (k : ℕ) (s o : List ℕ) → length o < paperBytes → (st, (0, o)) ≡ performed st k s o
+pub no-room : (st : Store) (k : ℕ) (s o : List ℕ) → length o < paperBytes → performs st 0 o ≡ performed st k s o
 unfolding performed
 no-room st k s o h = sym (rw (lt-leb paperBytes (length o) h))
 
@@ -110,20 +111,20 @@ unfolding performed deskLine
 by-request st k s o q h e = ap (λ z. printed o (granted st k z)) e ∙ sym (rw (le-leb paperBytes (length o) h))
 
 -- where there is room for any line, the store is the line's
-pub performed-store : (st : Store) (k : ℕ) (s o : List ℕ) (x : Store × (ℕ × List ℕ)) → paperBytes ≤ length o → x ≡ performed st k s o → x .0 ≡ deskLine st k s .0
+pub performed-store : (st : Store) (k : ℕ) (s o : List ℕ) (x : Performed) → paperBytes ≤ length o → x ≡ performed st k s o → x .store ≡ deskLine st k s .store
 unfolding performed
-performed-store st k s o x h e = ap (λ (y : Store × (ℕ × List ℕ)). y .0) e ∙ (rw (le-leb paperBytes (length o) h))
+performed-store st k s o x h e = ap (λ (y : Performed). y .store) e ∙ (rw (le-leb paperBytes (length o) h))
 
-written-end : (o b : List ℕ) → written o 0 b .0 ≤ length o
+written-end : (o b : List ℕ) → written o 0 b .next ≤ length o
 unfolding written
 written-end o b = go (leb (0 + length b) (length o)) refl
   where
-    go : (u : Bool) → leb (0 + length b) (length o) ≡ u → cond {A = ℕ × List ℕ} u (0 + length b, paste o 0 b (length b)) (0, o) .0 ≤ length o
+    go : (u : Bool) → leb (0 + length b) (length o) ≡ u → cond u (wrote (0 + length b) (paste o 0 b (length b))) (wrote 0 o) .next ≤ length o
     go true e = leb-true (0 + length b) (length o) e
     go false e = omega arith
 
 -- what is printed is within the buffer
-pub performed-end : (st : Store) (k : ℕ) (s o : List ℕ) (x : Store × (ℕ × List ℕ)) → paperBytes ≤ length o → x ≡ performed st k s o → x .1 .0 ≤ length o
+pub performed-end : (st : Store) (k : ℕ) (s o : List ℕ) (x : Performed) → paperBytes ≤ length o → x ≡ performed st k s o → x .paper .next ≤ length o
 unfolding performed
 performed-end st k s o x h e =
-    subst (λ n. n ≤ length o) (sym (ap (λ (y : Store × (ℕ × List ℕ)). y .1 .0) e ∙ (rw (le-leb paperBytes (length o) h)))) (written-end o (deskLine st k s .1))
+    subst (λ n. n ≤ length o) (sym (ap (λ (y : Performed). y .paper .next) e ∙ (rw (le-leb paperBytes (length o) h)))) (written-end o (deskLine st k s .bytes))

@@ -8,7 +8,7 @@ use lib.Dec.{leb}
 use Rattle.language.specs.declared.Refusal.the-variants.{BadLine}
 use Rattle.language.specs.Answers.{refusalNumber}
 use Rattle.language.specs.Limits.{maxHeight}
-use Rattle.numerals.specs.Numerals.{written}
+use Rattle.numerals.specs.Numerals.{Written, wrote, written}
 use Rattle.book.specs.Calls.{defines, withdraws, running}
 use Rattle.book.specs.Replies.{Reply}
 use Rattle.book.specs.Store.{Store, storeCall}
@@ -36,21 +36,32 @@ ranFigures k r =
       top = top (r .list) (r .report .height);
     }
 
+-- what a line comes to: the store after it, and the bytes that it prints
+pub record Served : Type 0 where
+  pub store : Store
+  pub bytes : List ℕ
+
+-- the two together
+abbrev pub serves : Store → List ℕ → Served
+serves st b = record { store = st; bytes = b }
+
 -- what a run prints: its figures, and its output, if any
 unfoldable pub shown : ℕ → Reply → List ℕ
 unfolding figures paper top
 shown k r = figures (ranFigures k r) ++ paper (take (r .report .written) (r .output))
 
 -- The store after the request of line k, and the bytes printed. A run is lent 64 list places and "4,096 bytes".
-unfoldable pub granted : Store → ℕ → Request → Store × List ℕ
+unfoldable pub granted : Store → ℕ → Request → Served
 unfolding figures shown
-granted st k (define l t) = let x = storeCall st (defines l t) in (x .0, figures (told k (x .1 .report .number)))
-granted st k (withdraw l) = let x = storeCall st (withdraws l) in (x .0, figures (told k (x .1 .report .number)))
-granted st k (run l n i) = let x = storeCall st (running l n i (replicate maxHeight (pos 0)) (replicate outputBytes 0)) in (x .0, shown k (x .1))
-granted st k bad = (st, figures (told k (refusalNumber BadLine)))
+granted st k (define l t) = let x = storeCall st (defines l t) in serves (x .kept) (figures (told k (x .reply .report .number)))
+granted st k (withdraw l) = let x = storeCall st (withdraws l) in serves (x .kept) (figures (told k (x .reply .report .number)))
+granted st k (run l n i) =
+    let x = storeCall st (running l n i (replicate maxHeight (pos 0)) (replicate outputBytes 0)) in
+    serves (x .kept) (shown k (x .reply))
+granted st k bad = serves st (figures (told k (refusalNumber BadLine)))
 
 -- a line without its newline
-unfoldable pub deskLine : Store → ℕ → List ℕ → Store × List ℕ
+unfoldable pub deskLine : Store → ℕ → List ℕ → Served
 unfolding granted request
 deskLine st k s = granted st k (request s)
 
@@ -58,14 +69,23 @@ deskLine st k s = granted st k (request s)
 unfoldable pub session : Store → ℕ → List (List ℕ) → List ℕ
 unfolding deskLine
 session st k [] = []
-session st k (s ∷ l) = let x = deskLine st k s in x .1 ++ session (x .0) (suc k) l
+session st k (s ∷ l) = let x = deskLine st k s in x .bytes ++ session (x .store) (suc k) l
 
 -- ── over a buffer ───────────────────────────────────────────────────────────────────────────────
 
--- the store, and the bytes printed at the start of the buffer o: how many, and the buffer with them
-abbrev pub printed : List ℕ → Store × List ℕ → Store × (ℕ × List ℕ)
-printed o x = (x .0, written o 0 (x .1))
+-- the store after a line, and the paper with what it printed
+pub record Performed : Type 0 where
+  pub store : Store
+  pub paper : Written
+
+-- the store after a line, and the buffer o of whose bytes the first n are what it printed
+abbrev pub performs : Store → ℕ → List ℕ → Performed
+performs st n o = record { store = st; paper = wrote n o }
+
+-- the bytes printed at the start of the buffer o
+abbrev pub printed : List ℕ → Served → Performed
+printed o x = record { store = x .store; paper = written o 0 (x .bytes) }
 
 -- line k over the buffer o; nothing is done where it has no room for any line
-unfoldable pub performed : Store → ℕ → List ℕ → List ℕ → Store × (ℕ × List ℕ)
-performed st k s o = cond (leb paperBytes (length o)) (printed o (deskLine st k s)) (st, (0, o))
+unfoldable pub performed : Store → ℕ → List ℕ → List ℕ → Performed
+performed st k s o = cond (leb paperBytes (length o)) (printed o (deskLine st k s)) (performs st 0 o)

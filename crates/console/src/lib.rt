@@ -2,11 +2,11 @@
 ghost use mathlib.Core.Path.{_≡_};
 ghost use Prim.Native.Nat.{_≤_};
 ghost use lib.ListN.{length};
-ghost use Rattle.numerals.specs.Numerals.{written};
+ghost use Rattle.numerals.specs.Numerals.{wrote, written};
 ghost use Rattle.figures.specs.Printed.{figures, told};
 ghost use Rattle.book.specs.Store.{storeOf};
 ghost use Rattle.lines.specs.Lines.{run};
-ghost use Rattle.console.specs.Desk.{paperBytes, granted, printed, performed};
+ghost use Rattle.console.specs.Desk.{paperBytes, granted, printed, performs, performed};
 use engine::lent;
 use figures::Figures;
 use figures::top;
@@ -30,7 +30,7 @@ pub const PAPER: usize = 4200;
 
 // "zeros for `D` and `X` and for refusals"
 fn tell(paper: &mut [u8], line: u32, answer: u32) -> usize
-    ensures { λ r. ⌜ (r, now (paper .exit)) ≡ written (now (paper .entry)) 0 (figures (told line answer)) ⌝ }
+    ensures { λ r. ⌜ wrote r (now (paper .exit)) ≡ written (now (paper .entry)) 0 (figures (told line answer)) ⌝ }
 {
     let f = Figures {
         line,
@@ -55,7 +55,7 @@ fn execute(
     paper: &mut [u8],
 ) -> usize
     requires { ⌜ paperBytes ≤ length (now paper) ⌝ }
-    ensures { λ r. ⌜ (storeOf (now (cells .entry)) used (now (vars .exit)), (r, now (paper .exit)))
+    ensures { λ r. ⌜ performs (storeOf (now (cells .entry)) used (now (vars .exit))) r (now (paper .exit))
         ≡ printed (now (paper .entry)) (granted (storeOf (now (cells .entry)) used (now (vars .entry))) line (run letter allowance (now (inputs .entry)))) ⌝ }
 {
     let mut list = [0i32; HEIGHT];
@@ -94,7 +94,7 @@ pub fn perform(
     line: &[u8],
     paper: &mut [u8],
 ) -> usize
-    ensures { λ r. ⌜ (storeOf (now (cells .exit)) (now (used .exit)) (now (vars .exit)), (r, now (paper .exit)))
+    ensures { λ r. ⌜ performs (storeOf (now (cells .exit)) (now (used .exit)) (now (vars .exit))) r (now (paper .exit))
         ≡ performed (storeOf (now (cells .entry)) (now (used .entry)) (now (vars .entry))) number (now (line .entry)) (now (paper .entry)) ⌝ }
 {
     if paper.len() < PAPER {

@@ -29,7 +29,7 @@ pub past-last : (p : Progress) → maxLines ≤ p .done → p ≡ ended p
 unfolding ended
 past-last p h = sym (simp (le-ltb (p .done) maxLines h))
 
-pub one-line : (p q : Progress) → p .done < maxLines → q .store ≡ deskLine (p .store) (p .done + 1) (p .line) .0 → q .done ≡ p .done + 1 → q .line ≡ []
+pub one-line : (p q : Progress) → p .done < maxLines → q .store ≡ deskLine (p .store) (p .done + 1) (p .line) .store → q .done ≡ p .done + 1 → q .line ≡ []
     → q ≡ ended p
 unfolding ended
 one-line p q h a b c = (λ i. record { store = a i; done = b i; line = c i }) ∙ sym (simp (lt-ltb (p .done) maxLines h))

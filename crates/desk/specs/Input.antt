@@ -41,7 +41,7 @@ longer l b = cond (ltb (length l) keptBytes) (l ++ (b ∷ [])) l
 -- the line is whole
 unfoldable pub ended : Progress → Progress
 ended p =
-    cond (ltb (p .done) maxLines) (record { store = deskLine (p .store) (p .done + 1) (p .line) .0; done = p .done + 1; line = [] }) p
+    cond (ltb (p .done) maxLines) (record { store = deskLine (p .store) (p .done + 1) (p .line) .store; done = p .done + 1; line = [] }) p
 
 -- one byte of input
 unfoldable pub fedByte : ℕ → Progress → Progress

@@ -18,8 +18,8 @@ figuresOf r = truthFigure (r .truth) ∷ r .steps ∷ r .height ∷ r .taken ∷
 
 -- the call c of the store st, part by part
 pub record Opened (st : Store) (c : Call) (number : ℕ) (vars list : List ℤ) (output figures : List ℕ) : Type 0 where
-  pub is-number : number ≡ storeCall st c .1 .report .number
-  pub is-vars : vars ≡ storeCall st c .1 .variables
-  pub is-list : list ≡ storeCall st c .1 .list
-  pub is-output : output ≡ storeCall st c .1 .output
-  pub is-figures : figures ≡ figuresOf (storeCall st c .1 .report)
+  pub is-number : number ≡ storeCall st c .reply .report .number
+  pub is-vars : vars ≡ storeCall st c .reply .variables
+  pub is-list : list ≡ storeCall st c .reply .list
+  pub is-output : output ≡ storeCall st c .reply .output
+  pub is-figures : figures ≡ figuresOf (storeCall st c .reply .report)

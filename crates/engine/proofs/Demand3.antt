@@ -25,8 +25,8 @@ chained : (s : Store) (ss : List Step) → Promised s ss → repliesOf ss ≡ st
 unfolding answers
 chained s [] h = refl
 chained s (x ∷ ss) h =
-    let e = chained (x .store) ss (h .1) ∙ ap (λ z. storeAnswers (z .0) (callsOf ss)) (h .0) in
-    λ i. h .0 i .1 ∷ e i
+    let e = chained (x .store) ss (h .1) ∙ ap (λ z. storeAnswers (z .kept) (callsOf ss)) (h .0) in
+    λ i. h .0 i .reply ∷ e i
 
 pub demand-3 : Demand3
 demand-3 s ss e h = chained s ss h ∙ ap (λ z. storeAnswers z (callsOf ss)) e ∙ answers-agree (callsOf ss)
@@ -37,7 +37,7 @@ demand-3 s ss e h = chained s ss h ∙ ap (λ z. storeAnswers z (callsOf ss)) e 
 ended : (s : Store) (ss : List Step) → Promised s ss → stored (storeAfter s ss) ≡ Definitions.storeAfter (stored s) (callsOf ss)
 unfolding after
 ended s [] h = refl
-ended s (x ∷ ss) h = ended (x .store) ss (h .1) ∙ ap (λ z. Definitions.storeAfter (z .0) (callsOf ss)) (h .0)
+ended s (x ∷ ss) h = ended (x .store) ss (h .1) ∙ ap (λ z. Definitions.storeAfter (z .kept) (callsOf ss)) (h .0)
 
 module _ (s : Store) (ss : List Step) (x : Run) (y : Step) (f : Follows s ss x y) where
   replies : repliesOf ss ≡ storeAnswers freshStore (callsOf ss)
@@ -48,7 +48,7 @@ module _ (s : Store) (ss : List Step) (x : Run) (y : Step) (f : Follows s ss x y
 
   -- the answer is the definitions'
   same : y .reply ≡ runAfter (callsOf ss) x
-  same = ap (λ z. z .1) (f .promise ∙ ap (λ z. storeCall z (runs x)) final)
+  same = ap (λ z. z .reply) (f .promise ∙ ap (λ z. storeCall z (runs x)) final)
 
   stands : (a : ℕ) → stood ss a ≡ standing (callsOf ss) (storeAnswers freshStore (callsOf ss)) a
   stands a = ap (λ z. standing (callsOf ss) z a) replies

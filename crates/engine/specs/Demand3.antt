@@ -13,7 +13,7 @@ use Rattle.language.specs.Syntax.{Expr}
 use Rattle.language.specs.Effects.{start}
 use Rattle.language.specs.Meaning.{meaning}
 use Rattle.book.specs.Calls.{Run, Call, runs}
-use Rattle.book.specs.Replies.{Reply, reported}
+use Rattle.book.specs.Replies.{Reply, leaves, reported}
 use Rattle.book.specs.Book.{freshBook}
 use Rattle.book.specs.Store.{freshStore, storeCall}
 use Rattle.book.specs.History.{bookAnswers, standing, readText}
@@ -29,18 +29,18 @@ pub record Step : Type 0 where
   pub store : Store
   pub reply : Reply
 
--- a define or withdraw c that returned r; a run x that returned r and left the list places p and the output o
+-- a define or withdraw c that returned r
 abbrev pub tellsOf : Call → Told → Step
-tellsOf c r = record { call = c; store = r .store; reply = told r c .1 }
+tellsOf c r = record { call = c; store = r .store; reply = told r c .reply }
 
 -- a run x that returned r and left the list places p and the output o
 abbrev pub runOf : Run → Answer → List ℤ → List ℕ → Step
-runOf x r p o = record { call = runs x; store = r .store; reply = answered r p o .1 }
+runOf x r p o = record { call = runs x; store = r .store; reply = answered r p o .reply }
 
 -- the contracts of the three functions, and the first store
 abbrev pub Promised : Store → List Step → Type 0
 Promised s [] = Unit {0}
-Promised s (x ∷ ss) = ((stored (x .store), x .reply) ≡ storeCall (stored s) (x .call)) × Promised (x .store) ss
+Promised s (x ∷ ss) = (leaves (stored (x .store)) (x .reply) ≡ storeCall (stored s) (x .call)) × Promised (x .store) ss
 
 -- the book is fed each call's arguments, except the store
 abbrev pub callsOf : List Step → List Call
@@ -69,7 +69,7 @@ stood ss l = standing (callsOf ss) (repliesOf ss) l
 pub record Follows (s : Store) (ss : List Step) (x : Run) (y : Step) : Type 0 where
   pub fresh : stored s ≡ freshStore
   pub session : Promised s ss
-  pub promise : (stored (y .store), y .reply) ≡ storeCall (stored (storeAfter s ss)) (runs x)
+  pub promise : leaves (stored (y .store)) (y .reply) ≡ storeCall (stored (storeAfter s ss)) (runs x)
   pub admissible : Admissible x
 
 -- it is refused exactly when no text of its letter then stands. proofs/Demand3 `refused-exactly`

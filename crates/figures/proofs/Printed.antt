@@ -10,7 +10,7 @@ use lib.Seq.{paste, paste-zero, take-paste, take-length}
 use lib.Dec.{leb}
 use borrow.Author.Tests.{eq-eqb, ne-eqb, lt-leb}
 use Rattle.language.specs.Decimals.{decimals, decimal, justified, padded}
-use Rattle.numerals.specs.Numerals.{written, maxColumns}
+use Rattle.numerals.specs.Numerals.{Written, wrote, written, maxColumns}
 use Rattle.numerals.proofs.Decimals.{justified-most, padded-most}
 use Rattle.numerals.proofs.Numerals.{written-room, written-no-room, written-two}
 use Rattle.figures.specs.declared.Figures.{Figures}
@@ -21,23 +21,23 @@ use Rattle.language.specs.Bytes.{newlineByte}
 
 -- Bytes b, at most n, stand at the start of the buffer o, which is then o′, and end at the place r.
 pub record Begins (o b : List ℕ) (n r : ℕ) (o′ : List ℕ) : Type 0 where
-  pub same : (r, o′) ≡ written o 0 b
+  pub same : wrote r o′ ≡ written o 0 b
   pub size : length b ≤ n
 
 -- others after them
 more : (o a b : List ℕ) (n k : ℕ) {m r : ℕ} {o₁ o₂ : List ℕ}
-    → Begins o a n m o₁ → (r, o₂) ≡ written o₁ m b → length b ≤ k → n + k ≤ length o → Begins o (a ++ b) (n + k) r o₂
+    → Begins o a n m o₁ → wrote r o₂ ≡ written o₁ m b → length b ≤ k → n + k ≤ length o → Begins o (a ++ b) (n + k) r o₂
 more o a b n k s q h l =
     record { same = written-two o 0 a b (s .same) q (omega (arith, s .size)); size = omega (arith, s .size, length-append a b) }
 
 pub all-fields : (o : List ℕ) (f : Figures) {o₁ o₂ o₃ o₄ o₅ o₆ o₇ : List ℕ} {a b c d e g r t : ℕ} → length o ≡ mostBytes → t ≡ bit (f .truth)
-    → (a, o₁) ≡ written o 0 (justified lineWidth (decimals false (f .line)))
-    → (b, o₂) ≡ written o₁ a (justified answerWidth (decimals false (f .answer)))
-    → (c, o₃) ≡ written o₂ b (justified truthWidth (decimals false t))
-    → (d, o₄) ≡ written o₃ c (justified stepsWidth (decimals false (f .steps)))
-    → (e, o₅) ≡ written o₄ d (justified heightWidth (decimals false (f .height)))
-    → (g, o₆) ≡ written o₅ e (padded topWidth (f .top))
-    → (r, o₇) ≡ written o₆ g (newlineByte ∷ [])
+    → wrote a o₁ ≡ written o 0 (justified lineWidth (decimals false (f .line)))
+    → wrote b o₂ ≡ written o₁ a (justified answerWidth (decimals false (f .answer)))
+    → wrote c o₃ ≡ written o₂ b (justified truthWidth (decimals false t))
+    → wrote d o₄ ≡ written o₃ c (justified stepsWidth (decimals false (f .steps)))
+    → wrote e o₅ ≡ written o₄ d (justified heightWidth (decimals false (f .height)))
+    → wrote g o₆ ≡ written o₅ e (padded topWidth (f .top))
+    → wrote r o₇ ≡ written o₆ g (newlineByte ∷ [])
     → Begins o (figures f) mostBytes r o₇
 unfolding figures padded decimal
 all-fields o f {o₁ = o₁} {a = a} h t e₁ e₂ e₃ e₄ e₅ e₆ e₇ =
@@ -75,29 +75,29 @@ figures-most f =
     (omega arith)
 
 -- the figures in a buffer that has room for them, as they are lent
-module _ (z : List ℕ) (f : Figures) (r : ℕ) (o : List ℕ) (h : length z ≡ mostBytes) (e : (r, o) ≡ written z 0 (figures f)) where
-  at-start : _≡_ {A = ℕ × List ℕ} (r, o) (0 + length (figures f), paste z 0 (figures f) (length (figures f)))
+module _ (z : List ℕ) (f : Figures) (r : ℕ) (o : List ℕ) (h : length z ≡ mostBytes) (e : wrote r o ≡ written z 0 (figures f)) where
+  at-start : wrote r o ≡ wrote (0 + length (figures f)) (paste z 0 (figures f) (length (figures f)))
   at-start = e ∙ sym (written-room z 0 (figures f) (omega (arith, figures-most f)))
 
   pub figures-end : r ≡ length (figures f)
-  figures-end = let e = ap (λ (x : ℕ × List ℕ). x .0) at-start in omega arith
+  figures-end = let e = ap (λ (x : Written). x .next) at-start in omega arith
 
   pub figures-lent : take r o ≡ figures f
   figures-lent =
-      (λ i. take (at-start i .0) (at-start i .1)) ∙ take-paste z 0 (figures f) (length (figures f)) (omega arith) (omega arith) ∙ take-length (figures f)
+      (λ i. take (at-start i .next) (at-start i .buffer)) ∙ take-paste z 0 (figures f) (length (figures f)) (omega arith) (omega arith) ∙ take-length (figures f)
 
 -- ── a run's output ──────────────────────────────────────────────────────────────────────────────
 
 module _ (o : List ℕ) (at : ℕ) (b : List ℕ) where
-  pub output-none : length b ≡ 0 → (at, o) ≡ written o at (paper b)
+  pub output-none : length b ≡ 0 → wrote at o ≡ written o at (paper b)
   unfolding paper written
   output-none e = go b e
     where
-      by : (u : Bool) → _≡_ {A = ℕ × List ℕ} (at, o) (cond u (at + 0, paste o at [] 0) (at, o))
-      by true = let e : at ≡ at + 0 = omega arith in λ i. (e i, paste-zero o at [] i)
+      by : (u : Bool) → wrote at o ≡ cond u (wrote (at + 0) (paste o at [] 0)) (wrote at o)
+      by true = let e : at ≡ at + 0 = omega arith in λ i. wrote (e i) (paste-zero o at [] i)
       by false = refl
 
-      go : (b : List ℕ) → length b ≡ 0 → (at, o) ≡ written o at (paper b)
+      go : (b : List ℕ) → length b ≡ 0 → wrote at o ≡ written o at (paper b)
       go [] e = by (leb (at + 0) (length o))
       go (x ∷ b) e = absurd (omega arith)
 
@@ -109,13 +109,13 @@ module _ (o : List ℕ) (at : ℕ) (b : List ℕ) where
         go [] n = absurd (n refl)
         go (x ∷ b) n = unfold paper in refl
 
-    pub output-no-room : length o < at + (length b + 1) → (at, o) ≡ written o at (paper b)
+    pub output-no-room : length o < at + (length b + 1) → wrote at o ≡ written o at (paper b)
     output-no-room h =
         written-no-room o at (paper b)
         (lt-leb (at + length (paper b)) (length o) (omega (arith, ap length by-newline, length-append b (newlineByte ∷ []))))
 
     pub output-written : {o₁ o₂ : List ℕ} {m r : ℕ} → at + (length b + 1) ≤ length o
-        → (m, o₁) ≡ written o at b → (r, o₂) ≡ written o₁ m (newlineByte ∷ []) → (r, o₂) ≡ written o at (paper b)
+        → wrote m o₁ ≡ written o at b → wrote r o₂ ≡ written o₁ m (newlineByte ∷ []) → wrote r o₂ ≡ written o at (paper b)
     output-written h p q = written-two o at b (newlineByte ∷ []) p q (omega arith) ∙ ap (written o at) by-newline
 
 -- ── the top ─────────────────────────────────────────────────────────────────────────────────────

@@ -5,7 +5,7 @@ use numerals::write_number;
 use numerals::write_value;
 ghost use mathlib.Core.Path.{_≡_};
 ghost use lib.ListN.{length};
-ghost use Rattle.numerals.specs.Numerals.{written};
+ghost use Rattle.numerals.specs.Numerals.{wrote, written};
 ghost use Rattle.figures.specs.Printed.{mostBytes, bit, figures, paper, top};
 
 // The widths of line number, answer, truth, steps, height and top.
@@ -43,7 +43,7 @@ fn one_if(truth: bool) -> u32
 // A line's figures at the start of a buffer that has room for them.
 fn write_fields(text: &mut [u8], f: Figures) -> usize
     requires { ⌜ length (now text) ≡ mostBytes ⌝ }
-    ensures { λ r. ⌜ (r, now (text .exit)) ≡ written (now (text .entry)) 0 (figures f) ⌝ }
+    ensures { λ r. ⌜ wrote r (now (text .exit)) ≡ written (now (text .entry)) 0 (figures f) ⌝ }
 {
     let top = f.top;
     let a = write_number(text, 0, LINE_WIDTH, false, f.line);
@@ -57,7 +57,7 @@ fn write_fields(text: &mut [u8], f: Figures) -> usize
 
 // A line's figures at a place of a buffer: the place after them. Where they do not all fit, the buffer stays as it was, and the answer is the place itself.
 pub fn write_figures(out: &mut [u8], at: usize, f: Figures) -> usize
-    ensures { λ r. ⌜ (r, now (out .exit)) ≡ written (now (out .entry)) at (figures f) ⌝ }
+    ensures { λ r. ⌜ wrote r (now (out .exit)) ≡ written (now (out .entry)) at (figures f) ⌝ }
 {
     let mut text = [0u8; MOST_BYTES];
     let end = write_fields(&mut text, f);
@@ -66,7 +66,7 @@ pub fn write_figures(out: &mut [u8], at: usize, f: Figures) -> usize
 
 // The same for a run's output: "if any, follows with a newline after it"
 pub fn write_output(out: &mut [u8], at: usize, output: &[u8]) -> usize
-    ensures { λ r. ⌜ (r, now (out .exit)) ≡ written (now (out .entry)) at (paper (now (output .entry))) ⌝ }
+    ensures { λ r. ⌜ wrote r (now (out .exit)) ≡ written (now (out .entry)) at (paper (now (output .entry))) ⌝ }
 {
     if output.len() == 0 {
         return at;

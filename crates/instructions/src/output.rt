@@ -5,7 +5,7 @@ ghost use Rattle.language.specs.Decimals.{padded};
 ghost use Rattle.language.specs.Limits.{writeWidth};
 ghost use Rattle.language.specs.Syntax.{write, newline};
 ghost use Rattle.language.specs.Machine.{isPrint};
-ghost use Rattle.numerals.specs.Numerals.{written};
+ghost use Rattle.numerals.specs.Numerals.{wrote, written};
 ghost use Rattle.operands.specs.Held.{printing, writing};
 ghost use Rattle.operands.specs.Operands.{printsFrom};
 ghost use Rattle.operands.specs.Turns.{Turns, operatorTurn, markAt};
@@ -40,7 +40,7 @@ fn copy_cells(output: &mut [u8], to: usize, cells: &[i32; STORE_CELLS], from: us
 
 // A value's columns at a place of the output: the place after them.
 fn put_column(output: &mut [u8], at: usize, value: i32) -> usize
-    ensures { λ r. ⌜ (r, now (output .exit)) ≡ written (now (output .entry)) at (padded writeWidth value) ⌝ }
+    ensures { λ r. ⌜ wrote r (now (output .exit)) ≡ written (now (output .entry)) at (padded writeWidth value) ⌝ }
 {
     let text = value_column(value);
     write_bytes(output, at, &text)

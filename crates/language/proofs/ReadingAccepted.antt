@@ -17,7 +17,7 @@ spelled-formed t w s i =
     expr-formed w [] 0 (counters w) (omega arith) (i .counted) (spelled-marks t w s) .0
 
 pub accepted-formed : (t : List ℕ) (w : Expr) → read t ≡ accepted w → FormedExpr w
-accepted-formed t w h = let (s, i) = reading-sound t w h in spelled-formed t w s i
+accepted-formed t w h = let k = reading-sound t w h in spelled-formed t w (k .grammar) (k .limits)
 
 pub accepted-used : (t : List ℕ) (w : Expr) → read t ≡ accepted w → usedCells w ≤ maxCells
-accepted-used t w h = reading-sound t w h .1 .cells
+accepted-used t w h = reading-sound t w h .limits .cells

@@ -79,7 +79,7 @@ pub layout-decodes : LayoutDecodes
 layout-decodes t w e =
     let u = accepted-used t w e in
     let d = formed-decodes w (accepted-formed t w e) in
-    (used-least w, u, length-layout w u, d .0, d .1)
+    record { least = used-least w; most = u; whole = length-layout w u; decodes = d .0; ends = d .1 }
 
 -- what the simulation asks of a letter
 stored-stands : (texts : ℕ → Option Expr) (c : List ℤ) (u : List ℕ) (a : ℕ) (x : Option Expr) → Holds (tableAt c u a) x
@@ -87,8 +87,8 @@ stored-stands : (texts : ℕ → Option Expr) (c : List ℤ) (u : List ℕ) (a :
 stored-stands texts c u a none h = ap (λ n. not (eqb n 0)) h
 stored-stands texts c u a (some w) h =
     let p = used-least w in
-    let d = formed-decodes w (accepted-formed (h .1 .0) w (h .1 .1)) in
-    subst (λ (t : Table). (not (eqb (t .used) 0) ≡ true) × Decodes (decode t) w 2 (usedCells w) outermost 2 × (decode t (usedCells w) ≡ last)) (sym (h .0))
+    let d = formed-decodes w (accepted-formed (h .text) w (h .reads)) in
+    subst (λ (t : Table). (not (eqb (t .used) 0) ≡ true) × Decodes (decode t) w 2 (usedCells w) outermost 2 × (decode t (usedCells w) ≡ last)) (sym (h .table))
     (ap not (ne-eqb (usedCells w) 0 (omega arith)), d .0, d .1)
 
 pub machine-meaning : MachineMeaning

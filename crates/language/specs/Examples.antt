@@ -67,7 +67,7 @@ pub record Trial : Type 0 where
 unfoldable pub textAt : List (Char × String) → ℕ → Option Expr
 unfolding read exprOf
 textAt [] a = none
-textAt (t ∷ ts) a = cond (eqb (letterIndex (code (t .0))) a) (exprOf (read (bytes (t .1)))) (textAt ts a)
+textAt ((l, t) ∷ ts) a = cond (eqb (letterIndex (code l)) a) (exprOf (read (bytes t))) (textAt ts a)
 
 -- its table, and whether it stands
 abbrev pub tableOf : Option Expr → Table

@@ -41,7 +41,7 @@ maxLetters = 26
 abbrev pub maxVariables : ℕ
 maxVariables = 10
 
--- the cells of all letters' tables, and the counts of all letters' counters
+-- the cells of all letters' tables
 abbrev pub storeCells : ℕ
 storeCells = maxLetters * maxCells
 

@@ -7,4 +7,4 @@ use lib.Dec.{eqb}
 -- the entry of the first pair with key b, or d where there is none
 abbrev pub lookup : {A : Type 0} → List (ℕ × A) → A → ℕ → A
 lookup [] d b = d
-lookup (e ∷ l) d b = cond (eqb (e .0) b) (e .1) (lookup l d b)
+lookup ((k, x) ∷ l) d b = cond (eqb k b) x (lookup l d b)

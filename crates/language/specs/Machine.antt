@@ -64,7 +64,7 @@ unfoldable pub sound : Bool → Decoded → Decoded
 sound true d = d
 sound false d = damaged
 
--- a cell that is to hold a number from 0 on, or one below 0: -(n + 1)
+-- a cell that is to hold a number from 0 on
 unfoldable pub natural : ℤ → (ℕ → Decoded) → Decoded
 natural (pos n) k = k n
 natural (negsuc n) k = damaged
@@ -154,7 +154,7 @@ arrived last l fr back = back tt
 arrived damaged l fr back = broken
 arrived (code i) l fr back = due l i fr
 
--- on with what an operation, or a predicate, did; where it stops, the state and the steps left are those before it
+-- on with what an operation did; where it stops, the state and the steps left are those before it
 unfoldable pub onEffect : Effect → State → ℕ → (State → Outcome) → Outcome
 onEffect (goes s′) s r k = k s′
 onEffect (stops e) s r k = stopped e s r

@@ -18,13 +18,18 @@ use Rattle.language.specs.Tables.{tableAt, execute}
 
 -- ── reading ─────────────────────────────────────────────────────────────────────────────────────
 
--- A text is accepted exactly when it spells an expression within the limits, and as that expression. proofs/Grammar `reading-exact`
+-- a text keeps the written grammar and the limits, as an expression
+pub record Keeps (t : List ℕ) (w : Expr) : Type 0 where
+  pub grammar : Spells t w
+  pub limits : Within t w
+
+-- A text is accepted exactly when it keeps grammar and limits, and as that expression. proofs/Grammar `reading-exact`
 abbrev pub ReadingExact : Type 0
-ReadingExact = (t : List ℕ) (w : Expr) → (read t ≡ accepted w → Spells t w × Within t w) × (Spells t w × Within t w → read t ≡ accepted w)
+ReadingExact = (t : List ℕ) (w : Expr) → (read t ≡ accepted w → Keeps t w) × (Keeps t w → read t ≡ accepted w)
 
 -- That expression is unique. proofs/Grammar `spelling-unique`
 abbrev pub SpellingUnique : Type 0
-SpellingUnique = (t : List ℕ) (w v : Expr) → Spells t w × Within t w → Spells t v × Within t v → w ≡ v
+SpellingUnique = (t : List ℕ) (w v : Expr) → Keeps t w → Keeps t v → w ≡ v
 
 -- ── layout ──────────────────────────────────────────────────────────────────────────────────────
 
@@ -50,20 +55,30 @@ Decodes at (call a e) h x c q = (at q ≡ code (callAt a (afterCall q) (falseExi
 Decodes at (inner f e) h x c q =
     Decodes at f q (afterExpr f q) (exitTo (falseExit e (afterExpr f q))) q × Decodes at e h x c (afterExpr f q)
 
--- An accepted text's table has 3 to 250 used cells of 250, says its expression from cell 2 on, and ends at its last used cell.
--- proofs/TablesMeaning `layout-decodes`
+-- a table has 3 to 250 used cells of 250, says its expression from cell 2 on, and ends at its last used cell
+pub record Lays (w : Expr) : Type 0 where
+  pub least : 3 ≤ layout w .used
+  pub most : layout w .used ≤ maxCells
+  pub whole : length (layout w .cells) ≡ maxCells
+  pub decodes : Decodes (decode (layout w)) w codeStart (usedCells w) outermost codeStart
+  pub ends : decode (layout w) (usedCells w) ≡ last
+
+-- An accepted text's table does so. proofs/TablesMeaning `layout-decodes`
 abbrev pub LayoutDecodes : Type 0
-LayoutDecodes =
-    (t : List ℕ) (w : Expr) → read t ≡ accepted w
-    → (3 ≤ layout w .used) × (layout w .used ≤ maxCells) × (length (layout w .cells) ≡ maxCells)
-    × Decodes (decode (layout w)) w codeStart (usedCells w) outermost codeStart × (decode (layout w) (usedCells w) ≡ last)
+LayoutDecodes = (t : List ℕ) (w : Expr) → read t ≡ accepted w → Lays w
 
 -- ── the machine and the meaning ─────────────────────────────────────────────────────────────────
+
+-- a table is that of an accepted text
+pub record HoldsText (t : Table) (w : Expr) : Type 0 where
+  pub table : t ≡ layout w
+  pub text : List ℕ
+  pub reads : read text ≡ accepted w
 
 -- a table is that of an accepted text, or of a cleared letter
 abbrev pub Holds : Table → Option Expr → Type 0
 Holds t none = t .used ≡ 0
-Holds t (some w) = (t ≡ layout w) × ((x : List ℕ) × (read x ≡ accepted w))
+Holds t (some w) = HoldsText t w
 
 -- A run over the tables of standing texts is the nested meaning over the texts: ending, truth, steps, stack, variables, inputs taken, output. Any
 -- bound g above the allowance gives it. proofs/TablesMeaning `machine-meaning`

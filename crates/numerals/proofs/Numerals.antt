@@ -14,7 +14,7 @@ use Rattle.language.specs.Decimals.{maxDigits, justified}
 use Rattle.language.specs.Bytes.{blankByte, digitByte, isDigit}
 use Rattle.language.specs.Grammar.{Digits, digitBytes, valueFrom}
 use Rattle.numerals.specs.declared.Numeral.{Numeral}
-use Rattle.numerals.specs.Numerals.{DigitsAt, Reads, written, maxColumns, Ends}
+use Rattle.numerals.specs.Numerals.{DigitsAt, Reads, Written, wrote, written, maxColumns, Ends}
 use Rattle.numerals.proofs.Decimals.{ends-length}
 
 -- ── read ────────────────────────────────────────────────────────────────────────────────────────
@@ -112,12 +112,12 @@ digit-high b h = simp (le-leb 48 b (omega arith), lt-leb b 57 h)
 
 module _ (o : List ℕ) (at : ℕ) (b : List ℕ) where
   -- Bytes that fit are written.
-  pub written-room : at + length b ≤ length o → (at + length b, paste o at b (length b)) ≡ written o at b
+  pub written-room : at + length b ≤ length o → wrote (at + length b) (paste o at b (length b)) ≡ written o at b
   unfolding written
   written-room h = sym (rw (le-leb (at + length b) (length o) h))
 
   -- Bytes that do not all fit are not.
-  pub written-no-room : leb (at + length b) (length o) ≡ false → (at, o) ≡ written o at b
+  pub written-no-room : leb (at + length b) (length o) ≡ false → wrote at o ≡ written o at b
   unfolding written
   written-no-room e = sym (rw e)
 
@@ -141,10 +141,10 @@ module _ (o : List ℕ) (at : ℕ) (b : List ℕ) where
         bytes = rw (← e, p .bytes, add-one i) (paste-suc o at b i 0 (omega (arith, p .room)) h);
       }
 
-  pub pasting-done : (out : List ℕ) (i : ℕ) → Pasting o at b out i → length b ≤ i → (at + i, out) ≡ written o at b
+  pub pasting-done : (out : List ℕ) (i : ℕ) → Pasting o at b out i → length b ≤ i → wrote (at + i) out ≡ written o at b
   pasting-done out i p h =
       let e : i ≡ length b = omega (arith, p .within) in
-      (λ j. (at + e j, (p .bytes ∙ ap (paste o at b) e) j)) ∙ written-room o at b (p .room)
+      (λ j. wrote (at + e j) ((p .bytes ∙ ap (paste o at b) e) j)) ∙ written-room o at b (p .room)
 
 -- bytes pasted after others
 paste-two : (o : List ℕ) (at : ℕ) (a b : List ℕ) → at + length a ≤ length o
@@ -163,16 +163,16 @@ paste-two o at a b h =
 
 -- Bytes written, and others after them, all of which fit, are written as one.
 pub written-two : (o : List ℕ) (at : ℕ) (a b : List ℕ) {o₁ o₂ : List ℕ} {m r : ℕ}
-    → (m, o₁) ≡ written o at a → (r, o₂) ≡ written o₁ m b → at + length a + length b ≤ length o → (r, o₂) ≡ written o at (a ++ b)
+    → wrote m o₁ ≡ written o at a → wrote r o₂ ≡ written o₁ m b → at + length a + length b ≤ length o → wrote r o₂ ≡ written o at (a ++ b)
 written-two o at a b {o₁} {o₂} {m} {r} p q h =
     let s = p ∙ sym (written-room o at a (omega arith)) in
-    let em : m ≡ at + length a = ap (λ (x : ℕ × List ℕ). x .0) s in
-    let eo : o₁ ≡ paste o at a (length a) = ap (λ (x : ℕ × List ℕ). x .1) s in
+    let em : m ≡ at + length a = ap (λ (x : Written). x .next) s in
+    let eo : o₁ ≡ paste o at a (length a) = ap (λ (x : Written). x .buffer) s in
     let n : length o₁ ≡ length o = ap length eo ∙ length-paste o at a (length a) (omega arith) (omega arith) in
     q
     ∙ sym (written-room o₁ m b (omega arith))
-    ∙ (λ i. (em i + length b, paste (eo i) (em i) b (length b)))
-    ∙ (let e : at + length a + length b ≡ at + length (a ++ b) = omega (arith, length-append a b) in λ i. (e i, paste-two o at a b (omega arith) i))
+    ∙ (λ i. wrote (em i + length b) (paste (eo i) (em i) b (length b)))
+    ∙ (let e : at + length a + length b ≡ at + length (a ++ b) = omega (arith, length-append a b) in λ i. wrote (e i) (paste-two o at a b (omega arith) i))
     ∙ written-room o at (a ++ b) (omega (arith, length-append a b))
 
 -- ── a number in a width ─────────────────────────────────────────────────────────────────────────
@@ -186,12 +186,12 @@ module _ (o : List ℕ) (at w b : ℕ) (text : List ℕ) (k : ℕ) (d : List ℕ
   by-columns = ap length by-blanks ∙ simp (length-append, length-replicate) (omega (arith, ends-length text k d e))
 
   -- it does not fit
-  pub number-no-room : leb (at + (b + (maxColumns - k))) (length o) ≡ false → (at, o) ≡ written o at (justified w d)
+  pub number-no-room : leb (at + (b + (maxColumns - k))) (length o) ≡ false → wrote at o ≡ written o at (justified w d)
   number-no-room h = written-no-room o at (justified w d) (ap (λ (n : ℕ). leb (at + n) (length o)) by-columns ∙ h)
 
   -- the blanks, and then the part of the columns in which it stands
   pub number-written : {o₁ o₂ : List ℕ} {m r : ℕ} → leb (at + (b + (maxColumns - k))) (length o) ≡ true
-      → (m, o₁) ≡ written o at (replicate b blankByte) → (r, o₂) ≡ written o₁ m (take (maxColumns - k) (drop k text)) → (r, o₂) ≡ written o at (justified w d)
+      → wrote m o₁ ≡ written o at (replicate b blankByte) → wrote r o₂ ≡ written o₁ m (take (maxColumns - k) (drop k text)) → wrote r o₂ ≡ written o at (justified w d)
   number-written {o₁} {o₂} {m} {r} h p q =
       let g : at + (b + (maxColumns - k)) ≤ length o = leb-true _ _ h in
       let part : take (maxColumns - k) (drop k text) ≡ d =

@@ -39,9 +39,18 @@ valueOf minus n = cond (leb n maxValue) (signed minus n) (pos 0)
 
 -- ── written ─────────────────────────────────────────────────────────────────────────────────────
 
--- The bytes b at a place of the buffer o: the place after them, and the buffer with them. Where they do not all fit, the place itself, and the buffer as it was.
-unfoldable pub written : List ℕ → ℕ → List ℕ → ℕ × List ℕ
-written o at b = cond (leb (at + length b) (length o)) (at + length b, paste o at b (length b)) (at, o)
+-- a buffer that bytes were written into, and the place after them
+pub record Written : Type 0 where
+  pub next : ℕ
+  pub buffer : List ℕ
+
+-- the two together
+abbrev pub wrote : ℕ → List ℕ → Written
+wrote n o = record { next = n; buffer = o }
+
+-- The bytes b at a place of the buffer o. Where they do not all fit, nothing is written.
+unfoldable pub written : List ℕ → ℕ → List ℕ → Written
+written o at b = cond (leb (at + length b) (length o)) (wrote (at + length b) (paste o at b (length b))) (wrote at o)
 
 -- the columns that a number is rendered in: a `-` and ten digits fit
 abbrev pub maxColumns : ℕ

@@ -9,7 +9,7 @@ ghost use lib.ListN.{replicate};
 ghost use Rattle.language.specs.Limits.{writeWidth};
 ghost use Rattle.language.specs.Decimals.{decimals, justified, padded};
 ghost use Rattle.language.specs.Bytes.{blankByte, digitByte};
-ghost use Rattle.numerals.specs.Numerals.{Reads, valueOf, Ends, written};
+ghost use Rattle.numerals.specs.Numerals.{Reads, valueOf, Ends, wrote, written};
 
 // The most digits that are read as one number.
 pub const DIGITS: usize = 9;
@@ -85,7 +85,7 @@ fn fits(size: usize, at: usize, count: usize) -> bool
 
 // The bytes at a place of a buffer: the place after them. Where they do not all fit, the buffer stays as it was, and the answer is the place itself.
 pub fn write_bytes(out: &mut [u8], at: usize, bytes: &[u8]) -> usize
-    ensures { λ r. ⌜ (r, now (out .exit)) ≡ written (now (out .entry)) at (now (bytes .entry)) ⌝ }
+    ensures { λ r. ⌜ wrote r (now (out .exit)) ≡ written (now (out .entry)) at (now (bytes .entry)) ⌝ }
 {
     if !fits(out.len(), at, bytes.len()) {
         return at;
@@ -100,7 +100,7 @@ pub fn write_bytes(out: &mut [u8], at: usize, bytes: &[u8]) -> usize
 
 // The same for blanks.
 fn write_blanks(out: &mut [u8], at: usize, count: usize) -> usize
-    ensures { λ r. ⌜ (r, now (out .exit)) ≡ written (now (out .entry)) at (replicate count blankByte) ⌝ }
+    ensures { λ r. ⌜ wrote r (now (out .exit)) ≡ written (now (out .entry)) at (replicate count blankByte) ⌝ }
 {
     if !fits(out.len(), at, count) {
         return at;
@@ -153,7 +153,7 @@ fn blanks_before(width: usize, count: usize) -> usize
 // A number, after a `-` if it is said, right-justified in `width` columns, or in as many as it has, at a place of a buffer: the place after it. Where it
 // does not all fit, the buffer stays as it was, and the answer is the place itself.
 pub fn write_number(out: &mut [u8], at: usize, width: usize, minus: bool, number: u32) -> usize
-    ensures { λ r. ⌜ (r, now (out .exit)) ≡ written (now (out .entry)) at (justified width (decimals minus number)) ⌝ }
+    ensures { λ r. ⌜ wrote r (now (out .exit)) ≡ written (now (out .entry)) at (justified width (decimals minus number)) ⌝ }
 {
     let column = column_of(minus, number);
     let text = column.text;
@@ -185,7 +185,7 @@ pub fn value_column(value: i32) -> [u8; WRITE_WIDTH]
 
 // `write_number` for a signed value.
 pub fn write_value(out: &mut [u8], at: usize, width: usize, value: i32) -> usize
-    ensures { λ r. ⌜ (r, now (out .exit)) ≡ written (now (out .entry)) at (padded width value) ⌝ }
+    ensures { λ r. ⌜ wrote r (now (out .exit)) ≡ written (now (out .entry)) at (padded width value) ⌝ }
 {
     write_number(out, at, width, value < 0, distance(value))
 }

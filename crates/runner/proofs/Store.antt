@@ -19,7 +19,7 @@ use Rattle.language.specs.Effects.{start}
 use Rattle.language.specs.Tables.{standsAt, execute, soundCount, soundUsed}
 use Rattle.book.specs.declared.Report.{Report}
 use Rattle.book.specs.Calls.{Run, runs}
-use Rattle.book.specs.Replies.{plain, replied, reported, tells}
+use Rattle.book.specs.Replies.{leaves, plain, replied, reported, tells}
 use Rattle.book.specs.Refusals.{refusal}
 use Rattle.book.specs.Store.{Store, storeOf, soundStore, withVariables, storeRan, storeAccepts, storeCall, answered}
 use Rattle.book.proofs.Refusals.{store-refused, letter-refused, standing-refused, input-refused, list-refused, run-free}
@@ -69,7 +69,7 @@ module _ (st : Store) (x : Run) (r : Report) (s : Bool) (tested : s ≡ soundUse
               → answered (storeOf (st .cells) (st .used) w) r p o ≡ storeCall st (runs x)
           unfolding storeAccepts storeRan withVariables
           runs-on p o w h e =
-              (λ i. (storeOf (st .cells) (st .used) (e i .variables), e i))
+              (λ i. leaves (storeOf (st .cells) (st .used) (e i .variables)) (e i))
               ∙ call-accepted st (runs x) (run-free _ _ fine x lettered standing (sym inputs ∙ not-false v lawfully) h)
 
 -- ── used-cell counts ────────────────────────────────────────────────────────────────────────────

@@ -11,7 +11,7 @@ use Rattle.lines.specs.declared.Command.{Command}
 use Rattle.lines.specs.Lines.{define, request}
 use Rattle.lines.specs.Commands.{fieldStart, Asks}
 use Rattle.figures.specs.Printed.{figures, told}
-use Rattle.console.specs.Desk.{granted, printed}
+use Rattle.console.specs.Desk.{serves, granted, printed}
 use Rattle.console.proofs.Desk.{told-printed, no-room, by-request}
 use borrow.Author.Needs.{needs}
 use Rattle.console.proofs.perform.Statement.{statement}
@@ -73,8 +73,8 @@ unfolding granted
 returns-5 c =
     let s = c .before .before .before .before .before .before .before .before .before .before .before .before .args in
     let st = storeOf (now (s .cells)) (now (s .used)) (now (s .vars)) in
-    (λ i. (st, c .before .before .tell3 .ensures i))
-    ∙ ap (λ n. printed (now (s .paper)) (st, figures (told (s .number) n))) (c .before .before .before .number .ensures)
+    (λ i. record { store = st; paper = c .before .before .tell3 .ensures i })
+    ∙ ap (λ n. printed (now (s .paper)) (serves st (figures (told (s .number) n)))) (c .before .before .before .number .ensures)
     ∙ by-request st (s .number) (now (s .line)) (now (s .paper)) _ (c .before .before .before .before .before .before .before .before .before .if1 .left) (asks (c .before .before .before .before .before .before .before) _ (c .before .before .before .before .before .enum-told .given .1) .means)
 
 pub perform-spec : {M : Type 1} → statement M

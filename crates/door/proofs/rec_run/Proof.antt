@@ -1,6 +1,6 @@
 -- `door::rec_run` meets its contract.
 use mathlib.Core.Path.{ap}
-use Rattle.book.specs.Replies.{Reply}
+use Rattle.book.specs.Replies.{Answered}
 use Rattle.book.specs.Store.{Store}
 use Rattle.door.specs.Door.{figuresOf}
 use borrow.Author.Needs.{needs}
@@ -11,11 +11,11 @@ returns : tie.Need-returns
 returns c =
     let e = c .before .before .before .before .before .before .run .ensures in
     record {
-      is-number = ap (λ (x : Store × Reply). x .1 .report .number) e;
-      is-vars = ap (λ (x : Store × Reply). x .1 .variables) e;
-      is-list = ap (λ (x : Store × Reply). x .1 .list) e;
-      is-output = ap (λ (x : Store × Reply). x .1 .output) e;
-      is-figures = rw (c .before .before .truth-figure .ensures) (ap (λ (x : Store × Reply). figuresOf (x .1 .report)) e);
+      is-number = ap (λ (x : Answered Store). x .reply .report .number) e;
+      is-vars = ap (λ (x : Answered Store). x .reply .variables) e;
+      is-list = ap (λ (x : Answered Store). x .reply .list) e;
+      is-output = ap (λ (x : Answered Store). x .reply .output) e;
+      is-figures = rw (c .before .before .truth-figure .ensures) (ap (λ (x : Answered Store). figuresOf (x .reply .report)) e);
     }
 
 pub rec-run-spec : {M : Type 1} → statement M

@@ -17,7 +17,7 @@ use Rattle.language.specs.Decimals.{padded}
 use Rattle.language.specs.Syntax.{operator, write}
 use Rattle.language.specs.Effects.{Effect, goes, stops, top, withOutput, column, perform}
 use Rattle.language.specs.Tables.{standsAt}
-use Rattle.numerals.specs.Numerals.{written}
+use Rattle.numerals.specs.Numerals.{Written, wrote, written}
 use Rattle.numerals.proofs.Decimals.{length-padded}
 use Rattle.numerals.proofs.Numerals.{written-room}
 use Rattle.operands.specs.Loop.{effectTurn}
@@ -32,13 +32,13 @@ unfolding column
 length-column v = length-padded writeWidth v (omega arith)
 
 -- A column that fits is pasted.
-column-written : (o : List ℕ) (at : ℕ) (v : ℤ) {r : ℕ} {o′ : List ℕ} → at + writeWidth ≤ length o → (r, o′) ≡ written o at (padded writeWidth v)
+column-written : (o : List ℕ) (at : ℕ) (v : ℤ) {r : ℕ} {o′ : List ℕ} → at + writeWidth ≤ length o → wrote r o′ ≡ written o at (padded writeWidth v)
     → (r ≡ at + writeWidth) × (o′ ≡ paste o at (column v) writeWidth)
 unfolding column
 column-written o at v h e =
     let n = length-padded writeWidth v (omega arith) in
     let s = e ∙ sym (written-room o at (padded writeWidth v) (omega arith)) in
-    (ap (λ (x : ℕ × List ℕ). x .0) s ∙ ap (λ (k : ℕ). at + k) n, ap (λ (x : ℕ × List ℕ). x .1) s ∙ ap (paste o at (padded writeWidth v)) n)
+    (ap (λ (x : Written). x .next) s ∙ ap (λ (k : ℕ). at + k) n, ap (λ (x : Written). x .buffer) s ∙ ap (paste o at (padded writeWidth v)) n)
 
 returns : tie.Need-returns
 returns c = λ h. rw (c .stop .ensures, eq-eqb _ _ (c .before .if1 .taken))
