@@ -3,13 +3,13 @@ use mathlib.Core.Path.{_≡_, refl, sym, ap, _∙_, subst}
 use mathlib.Core.Bool.{Bool, true, false}
 use mathlib.Core.List.{List, [], _∷_, _++_}
 use mathlib.Core.Logic.{inl, inr}
-use Prim.Native.Nat.{ℕ, zero, suc, _+_, _-_, _≤_, _<_}
+use Prim.Native.Nat.{ℕ, suc, _+_, _-_, _≤_, _<_}
 use native.Mathlib.Omega.{arith}
 use lib.IntN.{ℤ, pos}
 use lib.ListN.{length, getD, set, take, drop, length-set}
 use lib.Seq.{getD-set-same, getD-set-other}
-use lib.Dec.{leb, ltb}
-use borrow.Author.Tests.{leb-true, leb-false, le-leb, lt-leb, ltb-true, ltb-false, lt-ltb, le-ltb}
+use lib.Dec.{leb}
+use borrow.Author.Tests.{leb-true, leb-false, le-leb, lt-leb, lt-ltb, le-ltb}
 use Rattle.language.specs.Limits.{maxCells, maxLevels, maxCounters}
 use Rattle.language.specs.Answers.{refusalNumber}
 use Rattle.language.specs.declared.Refusal.{Refusal}
@@ -17,7 +17,7 @@ use Rattle.language.specs.declared.Refusal.the-variants.{Deep, Unfinished, Tabl
 use Rattle.language.specs.Syntax.{Operation, operator, variable, constant, print}
 use Rattle.language.specs.Syntax.{condition, counter, Expr, close, semi, colon, operate, test, call, inner}
 use Rattle.language.specs.Tokens.{Token, opens, closes, semis, colons, begins, does, asks, counts, calls}
-use Rattle.language.specs.Layout.{forward, afterOperation, afterPredicate, afterExpr, usedCells, codeStart, opcode}
+use Rattle.language.specs.Layout.{afterOperation, afterPredicate, afterExpr, usedCells, codeStart, opcode}
 use Rattle.language.specs.Reading.{Reading, refused, Place, inside, whole, require, extend, within, parse}
 use Rattle.lexer.specs.declared.Token as Lexer
 use Rattle.lexer.specs.declared.Token.the-variants as T
@@ -25,6 +25,8 @@ use Rattle.lexer.specs.Lexing.{Means}
 use Rattle.emitter.specs.Drafts.{levelPlaces, Cell, known, semiAt, closeAt, colonAt, Draft, lay, fit, atLevel, opened, closed, coloned, operandCells, testCells, counterCells, countOn, counted, knownBytes}
 use Rattle.assembler.specs.Taking.{taken}
 use Rattle.assembler.specs.Scanning.{Ready}
+use Rattle.language.proofs.LayoutPositions.{forward-add}
+use Rattle.language.proofs.Tests.{by-ltb}
 use Rattle.emitter.proofs.Drafts.{fit-room, fit-full, open-room, open-full, close-last, close-inner, count-room, count-full, bytes-length}
 use Rattle.assembler.proofs.ExitsLayout.{operationDraft, predicateDraft, callDraft, emit}
 use Rattle.assembler.proofs.ExitsFilling.{Low}
@@ -47,7 +49,7 @@ pub record Image (d : Draft) (f : Expr → Expr) (st : List (Expr → Expr)) (q 
   pub fault-is : d .fault ≡ 0
   pub level-is : d .level ≡ suc (length st)
   pub counters-are : d .counters ≡ c
-  pub deep : length st ≤ 9
+  pub deep : length st ≤ maxLevels - 1
   pub places : length (d .starts) ≡ levelPlaces
   pub size : suc (d .used) ≡ q
   pub start : ℕ
@@ -66,15 +68,11 @@ pub data Outcome (P : Reading) (l : List Token) (d : Draft) : Type 0 where
 
 -- ── positions ───────────────────────────────────────────────────────────────────────────────────
 
-forward-is : (n q : ℕ) → forward n q ≡ q + n
-forward-is zero q = omega arith
-forward-is (suc n) q = let e : suc q + n ≡ q + suc n = omega arith in forward-is n (suc q) ∙ e
-
 operation-far : (o : Operation) (q : ℕ) → afterOperation o q ≡ q + length (operationDraft o)
 operation-far (operator o) q = omega arith
 operation-far (variable a k) q = omega arith
 operation-far (constant v) q = omega arith
-operation-far (print b) q = omega (arith, forward-is (length b) (suc (suc q)), bytes-length b)
+operation-far (print b) q = omega (arith, forward-add (length b) (suc (suc q)), bytes-length b)
 
 start-here : (st : List (Expr → Expr)) (h : ℕ) (R : List Cell) (F : List ℤ) → Around st h R F → getD F (suc (length st)) (pos 0) ≡ pos h
 start-here [] h R F a = a .2 ∙ ap pos (sym (a .0))
@@ -101,13 +99,6 @@ by-leb a b P f g = go (leb a b) refl
     go : (t : Bool) → leb a b ≡ t → P
     go true e = f (leb-true a b e)
     go false e = g (leb-false a b e)
-
-by-ltb : (a b : ℕ) (P : Type 0) → (a < b → P) → (b ≤ a → P) → P
-by-ltb a b P f g = go (ltb a b) refl
-  where
-    go : (t : Bool) → ltb a b ≡ t → P
-    go true e = f (ltb-true a b e)
-    go false e = g (ltb-false a b e)
 
 -- g is one more mark of the expression f, and its cells are cs
 module _ (l : List Token) (d : Draft) (f g : Expr → Expr) (st : List (Expr → Expr)) (q c q′ : ℕ) (cs : List Cell) (im : Image d f st q c)
@@ -179,7 +170,7 @@ module _ (l : List Token) (d : Draft) (f : Expr → Expr) (st : List (Expr → E
   opening : Outcome (within opens f st q c (λ p. parse l p)) l (opened d)
   unfolding within require
   opening =
-      by-ltb (length st) 9 (Outcome (within opens f st q c (λ p. parse l p)) l (opened d))
+      by-ltb (length st) (maxLevels - 1) (λ _. Outcome (within opens f st q c (λ p. parse l p)) l (opened d))
       (λ h. subst (λ x. Outcome (within opens f st q c (λ p. parse l p)) l x) (sym (open-room d (omega (arith, im .level-is))))
       (goes (λ e. e) (f ∷ st) q c (simp (le-leb (suc (suc (length st))) maxLevels (omega arith))) (image-open h)))
       (λ h. subst (λ x. Outcome (within opens f st q c (λ p. parse l p)) l x) (sym (open-full d (omega (arith, im .level-is))))
@@ -301,7 +292,7 @@ module _ (l : List Token) (d : Draft) (f : Expr → Expr) (st : List (Expr → E
   unfolding within require
   counting m =
       let P = within (counts m) f st q c (λ p. parse l p) in
-      by-ltb c maxCounters (Outcome P l (counted d (suc m)))
+      by-ltb c maxCounters (λ _. Outcome P l (counted d (suc m)))
       (λ h.
       let z : counted d (suc m) ≡ fit (countOn d) (counterCells (suc m) c (suc (length st))) =
       count-room d (suc m) (omega (arith, im .counters-are))

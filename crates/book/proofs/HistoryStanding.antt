@@ -19,7 +19,8 @@ use Rattle.language.specs.Syntax.{Expr}
 use Rattle.language.specs.Reading.{accepted, read, exprOf}
 use Rattle.language.specs.Effects.{start}
 use Rattle.language.specs.Meaning.{Outcome, ended, stopped, meaning}
-use Rattle.language.proofs.Answers.{ending-no-refusal, refusal-not-zero}
+use Rattle.book.proofs.Store.{reported-accepts}
+use Rattle.language.proofs.Answers.{refusal-not-zero}
 use Rattle.language.proofs.Between.{between-bounds}
 use Rattle.language.proofs.AnswersOccurring.{ProperOutcome, proper-meaning}
 use Rattle.language.proofs.EffectsLent.{replicate-at}
@@ -252,11 +253,6 @@ module _ (cs : List Call) where
   run-answer x h u e =
       both-call (storeAfter freshStore cs) book (runs x) agreed .reply
       ∙ ap (λ o. answer o book (book .variables) (runs x) (bookAccepts book (runs x)) .reply) (only-standing x h u e)
-
-  reported-accepts : (v : List ℤ) (n : ℕ) (o : Outcome) → isRefusal (reported v n o .report .number) ≡ false
-  unfolding reported
-  reported-accepts v n (ended t s r) = refl
-  reported-accepts v n (stopped k s r) = ending-no-refusal k
 
   refused-by : (x : Run) → Admissible x → (y : Option (List ℕ)) (z : Option Expr) → textOf (book .texts) (letterIndex (x .letter)) ≡ z → Tracks y z
       → isRefusal (storeCall (storeAfter freshStore cs) (runs x) .reply .report .number) ≡ isNone y

@@ -1,14 +1,14 @@
 -- The store: entries that are put into it, and what a refused call leaves of it.
-use mathlib.Core.Path.{_≡_, refl, sym, ap, _∙_, subst}
+use mathlib.Core.Path.{_≡_, refl, sym, ap, _∙_}
 use Prim.Native.Nat.{ℕ, _+_, _-_, _*_, _≤_, _<_}
 use native.Mathlib.Omega.{arith}
-use mathlib.Core.Bool.{Bool, true, false, cond, _&&_}
+use mathlib.Core.Bool.{Bool, true, false, cond, _&&_, false≢true}
 use mathlib.Core.Option.{Option, none, some}
 use mathlib.Core.List.{List, _++_, append-assoc}
 use lib.IntN.{ℤ, pos}
 use lib.ListN.{length, getD, set, take, drop, take-append-drop, length-drop}
 use lib.Seq.{paste, take-append-le, drop-append-le, drop-drop, length-paste, length-paste-head, drop-paste, take-at, drop-at, length-take-le, getD-take, getD-drop, getD-set-same, getD-set-other, set-comm, take-all, ext-getD}
-use lib.Dec.{T, ltb}
+use lib.Dec.{ltb}
 use borrow.Author.Tests.{ltb-true, ltb-false}
 use Rattle.language.specs.declared.Table.{Table}
 use Rattle.language.specs.declared.Refusal.{Refusal}
@@ -169,10 +169,8 @@ entry-commute st a b e f sp la lb he hf ne =
 
 -- ── a refused call ──────────────────────────────────────────────────────────────────────────────
 
-never : {X : Type 0} → false ≡ true → X
-never e = absurd (subst T (sym e) tt)
-
-reported-accepts : (v : List ℤ) (n : ℕ) (o : Outcome) → isRefusal (reported v n o .report .number) ≡ false
+-- what a run came to is no refusal
+pub reported-accepts : (v : List ℤ) (n : ℕ) (o : Outcome) → isRefusal (reported v n o .report .number) ≡ false
 unfolding reported
 reported-accepts v n (ended t s r) = refl
 reported-accepts v n (stopped e s r) = ending-no-refusal e
@@ -199,7 +197,7 @@ refusal-keeps st c h = go (refusal (soundStore st) (standsAt (st .used)) c) h
           output = lentOutput c;
           variables = st .variables;
         })
-    go none k = unfold answer in never (sym (accepts-accepts st c) ∙ k)
+    go none k = unfold answer in absurd (false≢true (sym (accepts-accepts st c) ∙ k))
     go (some r) k = unfold answer tells in refl
 
 -- ── a call by its refusal ───────────────────────────────────────────────────────────────────────

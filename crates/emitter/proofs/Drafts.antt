@@ -3,7 +3,7 @@ use mathlib.Core.Path.{_≡_, refl, sym, ap, _∙_}
 use mathlib.Core.List.{List, [], _∷_}
 use Prim.Native.Nat.{ℕ, suc, _+_, _-_, _≤_, _<_}
 use native.Mathlib.Omega.{arith}
-use mathlib.Core.Bool.{true, false}
+use mathlib.Core.Bool.{true}
 use mir.Syntax.{w32}
 use mir.Val.{toZ, ofZ}
 use lib.IntN.{ℤ, pos, _-ℤ_}
@@ -12,7 +12,7 @@ use lib.Seq.{drop-cons, length-take-le}
 use borrow.Author.Tests.{le-leb, lt-leb, lt-ltb, le-ltb, eq-eqb, ne-eqb}
 use Rattle.language.specs.Limits.{maxCells, maxLevels, maxCounters, maxValue}
 use Rattle.language.specs.Layout.{opcode}
-use Rattle.numerals.proofs.Ints.{value-near, minus-is, plain-is}
+use Rattle.numerals.proofs.Ints.{value-near, minus-is}
 use Rattle.language.specs.declared.Refusal.{Refusal}
 use Rattle.language.specs.declared.Refusal.the-variants.{Deep, TableFull, ManyCounters}
 use Rattle.emitter.specs.declared.pass.Pass.{Pass}
@@ -74,9 +74,6 @@ pub put-as : (d e : Draft) (z w : ℤ) → e ≡ put d (known z) → z ≡ w →
 put-as d e z w h k = h ∙ ap (λ z. put d (known z)) k
 
 -- ── numbers in a cell ───────────────────────────────────────────────────────────────────────────
-
-pub small : (n : ℕ) → n ≤ maxValue → toZ w32 n ≡ pos n
-small n h = plain-is n h ∙ value-near false n h
 
 pub code-is : (n : ℕ) → n ≤ maxValue → toZ w32 (ofZ w32 (pos 0 -ℤ toZ w32 n)) ≡ opcode n
 code-is n h = minus-is n h ∙ value-near true n h

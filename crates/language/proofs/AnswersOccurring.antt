@@ -7,12 +7,13 @@ use mathlib.Core.List.{List, [], _∷_}
 use lib.IntN.{ℤ, pos, natAbs}
 use lib.ListN.{length, getD}
 use lib.Dec.{leb, ltb, eqb}
+use Rattle.language.specs.Bytes.{digitByte, isDigit, minusByte, newlineByte, quoteByte, slashByte, tickByte}
 use Rattle.language.specs.declared.Refusal.{Refusal}
 use Rattle.language.specs.declared.Refusal.the-variants.{LongText, Deep, TableFull, ManyCounters}
 use Rattle.language.specs.declared.Ending.{Ending}
 use Rattle.language.specs.declared.Ending.the-variants.{ListEmpty, ListFull, Range, ZeroDivisor, NoInput, PaperOut}
 use Rattle.language.specs.Answers.{refusalNumber, endingNumber}
-use Rattle.language.specs.Limits.{maxText, maxLevels, maxCells, maxCounters, maxHeight, maxCalls}
+use Rattle.language.specs.Limits.{maxText, maxLevels, maxCells, maxCounters, maxHeight, maxCalls, maxVariables}
 use Rattle.language.specs.Syntax.{Operator, absolute, discard, negate, copy, write, newline, input, add, subtract, multiply, divide, Access, fetch, save}
 use Rattle.language.specs.Syntax.{negative, null, equal, Operation, operator, variable, constant, print, Predicate, condition, counter}
 use Rattle.language.specs.Syntax.{Expr, close, semi, colon, operate, test, call, inner}
@@ -94,7 +95,7 @@ module _ (k : Mode → List Token) (h : (m : Mode) → AllFine (k m)) where
   fine-slashed : (u : Bool) (b : ℕ) → AllFine (slashed u b k)
   unfolding slashed scanNumber
   fine-slashed true b = h (number (constantForm true) 0 0)
-  fine-slashed false b = fine-number (between 48 57 b) (eqb b 39) b (constantForm false) 0 0
+  fine-slashed false b = fine-number (isDigit b) (eqb b tickByte) b (constantForm false) 0 0
 
   fine-ticked : (u v : Bool) → AllFine (ticked u v k)
   unfolding ticked
@@ -122,12 +123,12 @@ module _ (k : Mode → List Token) (h : (m : Mode) → AllFine (k m)) where
   fine-scan : (m : Mode) (b : ℕ) → AllFine (scan m b k)
   unfolding scan
   fine-scan idle b = fine-first (class b)
-  fine-scan comment b = fine-commented (eqb b 34) (commentByte b)
-  fine-scan after-tick b = fine-ticked (eqb b 39) (eqb b 47)
-  fine-scan after-slash b = fine-slashed (eqb b 45) b
-  fine-scan (after-access a) b = fine-accessed (between 48 57 b) a (b - 48)
-  fine-scan (number f n v) b = fine-number (between 48 57 b) (eqb b (closingByte f)) b f n v
-  fine-scan (printing l) b = fine-printed (eqb b 39) (printByte b) b l
+  fine-scan comment b = fine-commented (eqb b quoteByte) (commentByte b)
+  fine-scan after-tick b = fine-ticked (eqb b tickByte) (eqb b slashByte)
+  fine-scan after-slash b = fine-slashed (eqb b minusByte) b
+  fine-scan (after-access a) b = fine-accessed (isDigit b) a (b - digitByte 0)
+  fine-scan (number f n v) b = fine-number (isDigit b) (eqb b (closingByte f)) b f n v
+  fine-scan (printing l) b = fine-printed (eqb b tickByte) (printByte b) b l
 
 fine-tokens : (l : List ℕ) (m : Mode) → AllFine (tokens l m)
 unfolding tokens finish
@@ -256,12 +257,12 @@ proper-operated multiply s = proper-needs 2 s _ (proper-ranged _ _)
 proper-operated divide s = proper-needs 2 s _ (proper-cond (eqb (natAbs (top s)) 0) (stops ZeroDivisor) _ refl (proper-ranged _ _))
 proper-operated input s = proper-cond (ltb (s .taken) (length (s .inputs))) _ (stops NoInput) (proper-pushed (withTaken s (s .taken + 1)) _) refl
 proper-operated write s = proper-needs 1 s _ (proper-emitted s (column (top s)))
-proper-operated newline s = proper-emitted s (10 ∷ [])
+proper-operated newline s = proper-emitted s (newlineByte ∷ [])
 
 proper-performed : (o : Operation) (s : State) → ProperEffect (perform o s)
 unfolding perform
 proper-performed (operator o) s = proper-operated o s
-proper-performed (variable fetch k) s = proper-pushed s (getD (s .variables) (k % 10) (pos 0))
+proper-performed (variable fetch k) s = proper-pushed s (getD (s .variables) (k % maxVariables) (pos 0))
 proper-performed (variable save k) s = proper-needs 1 s (goes _) tt
 proper-performed (constant v) s = proper-pushed s v
 proper-performed (print b) s = proper-emitted s b

@@ -1,14 +1,15 @@
 -- A run keeps every number within the values: stack, inputs and variables. So a run never makes a store that 13 refuses.
 use mathlib.Core.Path.{_≡_, refl}
 use Prim.Native.Nat.{ℕ, zero, suc, _+_, _-_, _%_}
-use mathlib.Core.Bool.{Bool, true, false, cond, _&&_}
+use mathlib.Core.Bool.{Bool, true, false, cond}
 use mathlib.Core.List.{List, [], _∷_}
 use lib.IntN.{ℤ, pos, negsuc, natAbs, negℤ}
 use lib.ListN.{length, getD, set, replicate}
 use lib.Dec.{leb, ltb, eqb}
+use Rattle.language.specs.Bytes.{newlineByte}
 use Rattle.language.specs.declared.Table.{Table}
 use Rattle.language.specs.declared.Ending.the-variants.{ListEmpty, ListFull, Range, ZeroDivisor, NoInput, PaperOut}
-use Rattle.language.specs.Limits.{maxHeight, maxCounters}
+use Rattle.language.specs.Limits.{maxHeight, maxCounters, maxVariables}
 use Rattle.language.specs.Syntax.{Operator, absolute, discard, negate, copy, write, newline, input, add, subtract, multiply, divide, fetch, save}
 use Rattle.language.specs.Syntax.{negative, null, equal, Operation, operator, variable, constant, print, Predicate, condition, counter}
 use Rattle.language.specs.Between.{between}
@@ -19,25 +20,13 @@ use Rattle.language.specs.Values.{isValue, lawful}
 use Rattle.language.specs.Machine.{Instruction, transfer, fail, operateAt, testAt, callAt, Decoded, last, damaged, code, Kind, isConstant, isPrint, isCounter, isNone, isOperator, isVariable, isCondition, isCall, kind, cell, sound, natural, minus, exitAt, bytesAt, room, mark, early, exactly, decode}
 use Rattle.language.specs.Effects.{start}
 use Rattle.language.specs.Tables.{tableAt, decodeAt, standsAt, execute}
+use Rattle.language.proofs.Tests.{both-true, first-true, second-true}
 use Rattle.language.proofs.MachineInvariants.{Coded, DecodedSo, EffectSo, VerdictSo, OutcomeSo, effect-cond, verdict-cond, letter-keeps}
 
 -- ── lists of values ─────────────────────────────────────────────────────────────────────────────
 
 abbrev pub Lawful : List ℤ → Type 0
 Lawful l = lawful l ≡ true
-
-both-true : (u v : Bool) → u ≡ true → v ≡ true → (u && v) ≡ true
-both-true u v h k = rw (h, k)
-
-first-true : (u v : Bool) → (u && v) ≡ true → u ≡ true
-first-true true v h = refl
-first-true false true h = h
-first-true false false h = h
-
-second-true : (u v : Bool) → (u && v) ≡ true → v ≡ true
-second-true true v h = h
-second-true false true h = refl
-second-true false false h = h
 
 lawful-set : (l : List ℤ) (i : ℕ) (v : ℤ) → Lawful l → isValue v ≡ true → Lawful (set l i v)
 unfolding lawful
@@ -142,14 +131,14 @@ module _ (s : State) (h : Sane s) where
           effect-cond Sane (ltb (s .height) maxHeight) _ (stops ListFull)
           (record { stack = lawful-set (s .stack) (s .height) _ (h .stack) k; inputs = h .inputs; variables = h .variables }) tt
   sane-operated write = sane-needs 1 _ (sane-emitted (column (top s)))
-  sane-operated newline = sane-emitted (10 ∷ [])
+  sane-operated newline = sane-emitted (newlineByte ∷ [])
 
   sane-performed : (o : Operation) → LawfulOperation o → SaneEffect (perform o s)
   unfolding perform
   sane-performed (operator o) k = sane-operated o
-  sane-performed (variable fetch i) k = sane-pushed _ (lawful-get (s .variables) (i % 10) (h .variables))
+  sane-performed (variable fetch i) k = sane-pushed _ (lawful-get (s .variables) (i % maxVariables) (h .variables))
   sane-performed (variable save i) k =
-      sane-needs 1 _ (record { stack = h .stack; inputs = h .inputs; variables = lawful-set (s .variables) (i % 10) (top s) (h .variables) top-value })
+      sane-needs 1 _ (record { stack = h .stack; inputs = h .inputs; variables = lawful-set (s .variables) (i % maxVariables) (top s) (h .variables) top-value })
   sane-performed (constant v) k = sane-pushed v k
   sane-performed (print b) k = sane-emitted b
 
@@ -221,8 +210,8 @@ module _ (t : Table) where
   lawful-mark q (isOperator o) = lawful-code (operateAt (operator o) (suc q)) tt
   lawful-mark q (isVariable a) =
       lawful-room (suc (suc q)) _
-      (lawful-natural (cell t (suc q)) (λ k. sound (between 1 10 k) (code (operateAt (variable a k) (suc (suc q)))))
-      (λ k. lawful-sound (between 1 10 k) (code (operateAt (variable a k) (suc (suc q)))) (λ _. lawful-code _ tt)))
+      (lawful-natural (cell t (suc q)) (λ k. sound (between 1 maxVariables k) (code (operateAt (variable a k) (suc (suc q)))))
+      (λ k. lawful-sound (between 1 maxVariables k) (code (operateAt (variable a k) (suc (suc q)))) (λ _. lawful-code _ tt)))
   lawful-mark q isConstant =
       lawful-room (suc (suc q)) (sound (isValue (cell t (suc q))) (code (operateAt (constant (cell t (suc q))) (suc (suc q)))))
       (lawful-sound (isValue (cell t (suc q))) (code (operateAt (constant (cell t (suc q))) (suc (suc q))))

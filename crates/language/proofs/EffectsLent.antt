@@ -9,8 +9,9 @@ use lib.ListN.{length, getD, set, drop, length-set, length-replicate, replicate}
 use lib.Seq.{length-paste, drop-paste, drop-drop, getD-set-same, getD-set-other}
 use lib.Dec.{leb, ltb, eqb}
 use borrow.Author.Tests.{ltb-true, ltb-false, leb-true, eqb-true, eqb-false}
+use Rattle.language.specs.Bytes.{newlineByte}
 use Rattle.language.specs.declared.Ending.the-variants.{ListEmpty, ListFull, Range, ZeroDivisor, NoInput, PaperOut}
-use Rattle.language.specs.Limits.{maxHeight}
+use Rattle.language.specs.Limits.{maxHeight, maxVariables}
 use Rattle.language.specs.Syntax.{Operator, absolute, discard, negate, copy, write, newline, input, add, subtract, multiply, divide, fetch, save}
 use Rattle.language.specs.Syntax.{negative, null, equal, Operation, operator, variable, constant, print, Predicate, condition, counter}
 use Rattle.language.specs.Effects.{State, Effect, goes, stops, stalls, needs, ranged, pushed, emitted, inked, replaced, dropped, combined, withStack, withTaken, operated, perform, ask, top, column, countIndex}
@@ -148,13 +149,13 @@ module _ (o : List ℕ) where
       effect-cond (Lent o) (ltb (s .taken) (length (s .inputs))) _ (stops NoInput)
       (lent-pushed (withTaken s (s .taken + 1)) (lent-taken s (s .taken + 1) h) (getD (s .inputs) (s .taken) (pos 0))) tt
   lent-operated write s h = lent-needs s h 1 _ (λ p. lent-emitted s h (column (top s)))
-  lent-operated newline s h = lent-emitted s h (10 ∷ [])
+  lent-operated newline s h = lent-emitted s h (newlineByte ∷ [])
 
   -- an operation leaves the list and the output so
   pub lent-performed : (x : Operation) (s : State) → Unit {0} → Lent o s → LentEffect (perform x s)
   unfolding perform
   lent-performed (operator x) s u h = lent-operated x s h
-  lent-performed (variable fetch k) s u h = lent-pushed s h (getD (s .variables) (k % 10) (pos 0))
+  lent-performed (variable fetch k) s u h = lent-pushed s h (getD (s .variables) (k % maxVariables) (pos 0))
   lent-performed (variable save k) s u h =
       lent-needs s h 1 (goes _) (λ p. record { places = h .places; height = h .height; above = h .above; written = h .written; bytes = h .bytes; past = h .past })
   lent-performed (constant v) s u h = lent-pushed s h v

@@ -2,7 +2,7 @@
 use mathlib.Core.Path.{_≡_}
 use Prim.Native.Nat.{_≤_, _<_}
 use mathlib.Core.Bool.{true}
-use Rattle.language.specs.Limits.{maxCounters}
+use Rattle.language.specs.Limits.{maxCounters, maxLetters, maxVariables}
 use Rattle.language.specs.Syntax.{Operation, operator, variable, constant, print, Predicate, condition, counter}
 use Rattle.language.specs.Syntax.{Expr, close, semi, colon, operate, test, call, inner}
 use Rattle.language.specs.Tokens.{printByte}
@@ -11,7 +11,7 @@ use Rattle.language.specs.Grammar.{AllBytes}
 
 abbrev pub FormedOperation : Operation → Type 0
 FormedOperation (operator o) = Unit {0}
-FormedOperation (variable a k) = (1 ≤ k) × (k ≤ 10)
+FormedOperation (variable a k) = (1 ≤ k) × (k ≤ maxVariables)
 FormedOperation (constant v) = isValue v ≡ true
 FormedOperation (print b) = AllBytes printByte b
 
@@ -25,5 +25,5 @@ FormedExpr (semi e) = FormedExpr e
 FormedExpr (colon e) = FormedExpr e
 FormedExpr (operate o e) = FormedOperation o × FormedExpr e
 FormedExpr (test p e) = FormedPredicate p × FormedExpr e
-FormedExpr (call a e) = (a < 26) × FormedExpr e
+FormedExpr (call a e) = (a < maxLetters) × FormedExpr e
 FormedExpr (inner f e) = FormedExpr f × FormedExpr e

@@ -7,7 +7,7 @@ use mathlib.Core.Bool.{Bool, true, false}
 use mathlib.Core.List.{List, [], _∷_}
 use lib.ListN.{length}
 use borrow.Author.Tests.{le-leb}
-use Rattle.language.specs.Limits.{maxCounters, maxValue}
+use Rattle.language.specs.Limits.{maxCounters, maxValue, maxLetters, maxVariables}
 use Rattle.language.specs.Syntax.{condition, counter, Expr, close, semi, colon, operate, test, call, inner}
 use Rattle.language.specs.Tokens.{Token, opens, closes, semis, colons, begins, ends, does, asks, counts, calls, faults, signed, digitCell}
 use Rattle.language.specs.Values.{isValue}
@@ -59,7 +59,7 @@ FormedMarks c (mColon ∷ ms) = FormedMarks c ms
 FormedMarks c (mOperation o ∷ ms) = FormedOperation o × FormedMarks c ms
 FormedMarks c (mPredicate (condition t) ∷ ms) = FormedMarks c ms
 FormedMarks c (mPredicate (counter m k) ∷ ms) = (m < 9999) × (k ≡ c) × FormedMarks (suc c) ms
-FormedMarks c (mCall a ∷ ms) = (a < 26) × FormedMarks c ms
+FormedMarks c (mCall a ∷ ms) = (a < maxLetters) × FormedMarks c ms
 
 pub tokens-marks : (ms : List Mark) (c : ℕ) → FormedMarks c ms → marksIn c (tokensOf ms) ≡ ms
 tokens-marks [] c h = refl
@@ -104,7 +104,7 @@ signed-value true zero h = refl
 signed-value true (suc v) h = le-leb (suc v) maxValue h
 signed-value false v h = le-leb v maxValue h
 
-digit-cell : (d : ℕ) → d < 10 → (1 ≤ digitCell d) × (digitCell d ≤ 10)
+digit-cell : (d : ℕ) → d < 10 → (1 ≤ digitCell d) × (digitCell d ≤ maxVariables)
 digit-cell zero h = omega arith
 digit-cell (suc d) h = omega arith
 

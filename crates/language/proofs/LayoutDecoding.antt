@@ -1,14 +1,15 @@
 -- The table of an expression decodes to the expression.
 use mathlib.Core.Path.{_≡_, refl, sym, _∙_, subst}
-use Prim.Native.Nat.{ℕ, zero, suc, _+_, _-_, _≤_, _<_}
+use Prim.Native.Nat.{ℕ, zero, suc, _-_, _≤_, _<_}
 use native.Mathlib.Omega.{arith}
 use mathlib.Core.List.{List, [], _∷_}
 use lib.IntN.{ℤ, pos}
 use lib.ListN.{length, getD, drop}
 use borrow.Author.Tests.{lt-ltb, eq-eqb, ne-eqb}
+use Rattle.language.specs.Letters.{firstLetter, lastLetter, letterByte}
 use Rattle.language.specs.declared.Table.{Table}
-use Rattle.language.specs.Limits.{maxCounters}
-use Rattle.language.specs.Syntax.{Operator, absolute, discard, negate, copy, write, newline, input, add, subtract, multiply, divide, operatorByte}
+use Rattle.language.specs.Limits.{maxCounters, maxLetters}
+use Rattle.language.specs.Syntax.{Operator, absolute, discard, negate, copy, write, newline, input, add, subtract, multiply, divide, operatorByte, counterCode, constantCode, printCode}
 use Rattle.language.specs.Syntax.{Access, fetch, save, accessByte, Condition, negative, null, equal, conditionByte}
 use Rattle.language.specs.Syntax.{Operation, operator, variable, constant, print, Predicate, condition, counter}
 use Rattle.language.specs.Syntax.{Expr, close, semi, colon, operate, test, call, inner}
@@ -17,7 +18,7 @@ use Rattle.language.specs.Grammar.{AllBytes}
 use Rattle.language.specs.Layout.{forward, afterOperation, afterPredicate, afterCall, afterExpr, falseExit, opcode, byteCells, operationCells, predicateCells, exprCells, usedCells, layout}
 use Rattle.language.specs.Machine.{Instruction, transfer, fail, operateAt, testAt, callAt, Decoded, last, code, isConstant, isPrint, isCounter, isOperator, isVariable, isCondition, isCall, kind, cell, sound, natural, minus, exitAt, bytesAt, mark, early, exactly, decode}
 use Rattle.language.specs.Statements.{Closing, outermost, exitTo, closingCode, Decodes}
-use Rattle.language.proofs.Between.{between-ok}
+use Rattle.language.proofs.Between.{between-true}
 use Rattle.language.proofs.GrammarFormed.{FormedOperation, FormedPredicate, FormedExpr}
 use Rattle.language.proofs.LayoutPositions.{forward-le, operation-lt, predicate-lt, after-lt, exit-lt, exit-le}
 
@@ -62,23 +63,23 @@ kind-condition negative = refl
 kind-condition null = refl
 kind-condition equal = refl
 
-kind-constant : kind 175 ≡ isConstant
+kind-constant : kind constantCode ≡ isConstant
 unfolding kind
 kind-constant = refl
 
-kind-print : kind 167 ≡ isPrint
+kind-print : kind printCode ≡ isPrint
 unfolding kind
 kind-print = refl
 
-kind-counter : kind 36 ≡ isCounter
+kind-counter : kind counterCode ≡ isCounter
 unfolding kind
 kind-counter = refl
 
-kind-call : (a : ℕ) → a < 26 → kind (97 + a) ≡ isCall a
+kind-call : (a : ℕ) → a < maxLetters → kind (letterByte a) ≡ isCall a
 unfolding kind
 kind-call a h =
-    let e : (97 + a) - 97 ≡ a = omega arith in
-    rw (between-ok 97 122 (97 + a) (omega arith) (omega arith), e)
+    let e : letterByte a - firstLetter ≡ a = omega arith in
+    rw (between-true firstLetter lastLetter (letterByte a) (omega arith) (omega arith), e)
 
 early-opcode : (t : Table) (q b : ℕ) → 1 ≤ b → early t q (opcode b) ≡ mark t q (kind b)
 unfolding early
@@ -127,17 +128,17 @@ module _ (t : Table) where
   -- the due cell, where it is the last, the one before, or an earlier one
   at-last : (q : ℕ) (r : List ℤ) → 2 ≤ q → q ≡ t .used → From q (pos 1 ∷ r) → decode t q ≡ last
   unfolding decode sound exactly natural
-  at-last q r two e f = rw (between-ok 2 (t .used) q two (omega arith), eq-eqb q (t .used) e, cell-at q (pos 1) r f)
+  at-last q r two e f = rw (between-true 2 (t .used) q two (omega arith), eq-eqb q (t .used) e, cell-at q (pos 1) r f)
 
   at-fail : (q : ℕ) (r : List ℤ) → 2 ≤ q → suc q ≡ t .used → From q (pos 0 ∷ r) → decode t q ≡ code fail
   unfolding decode sound exactly natural
   at-fail q r two e f =
-      rw (between-ok 2 (t .used) q two (omega arith), ne-eqb q (t .used) (omega arith), eq-eqb (suc q) (t .used) e, cell-at q (pos 0) r f)
+      rw (between-true 2 (t .used) q two (omega arith), ne-eqb q (t .used) (omega arith), eq-eqb (suc q) (t .used) e, cell-at q (pos 0) r f)
 
   at-early : (q : ℕ) (c : ℤ) (r : List ℤ) → 2 ≤ q → suc q < t .used → From q (c ∷ r) → decode t q ≡ early t q c
   unfolding decode sound
   at-early q c r two lt f =
-      rw (between-ok 2 (t .used) q two (omega arith), ne-eqb q (t .used) (omega arith), ne-eqb (suc q) (t .used) (omega arith), cell-at q c r f)
+      rw (between-true 2 (t .used) q two (omega arith), ne-eqb q (t .used) (omega arith), ne-eqb (suc q) (t .used) (omega arith), cell-at q c r f)
 
   at-mark : (q b : ℕ) (r : List ℤ) → 1 ≤ b → 2 ≤ q → suc q < t .used → From q (opcode b ∷ r) → decode t q ≡ mark t q (kind b)
   at-mark q b r one two lt f = at-early q (opcode b) r two lt f ∙ early-opcode t q b one
@@ -152,7 +153,7 @@ module _ (t : Table) where
 
   exit-at : (q f : ℕ) (r : List ℤ) (i : ℕ → Instruction) → 2 ≤ f → f ≤ t .used → From q (pos f ∷ r) → exitAt t q i ≡ code (i f)
   unfolding exitAt natural sound
-  exit-at q f r i two le e = rw (cell-at q (pos f) r e, between-ok 2 (t .used) f two le)
+  exit-at q f r i two le e = rw (cell-at q (pos f) r e, between-true 2 (t .used) f two le)
 
   -- ── marks ─────────────────────────────────────────────────────────────────────────────────────
 
@@ -164,20 +165,20 @@ module _ (t : Table) where
   operation-at (variable a k) q r g two lt f =
       let f′ = then q (opcode (accessByte a)) (pos k ∷ r) f in (
         at-mark q (accessByte a) (pos k ∷ r) (access-byte a) two (omega arith) f
-            ∙ (rw (kind-access, lt-ltb (suc (suc q)) (t .used) lt, cell-at (suc q) (pos k) r f′, between-ok 1 10 k (g .0) (g .1))),
+            ∙ (rw (kind-access, lt-ltb (suc (suc q)) (t .used) lt, cell-at (suc q) (pos k) r f′, between-true 1 10 k (g .0) (g .1))),
         then (suc q) (pos k) r f′,
       )
   operation-at (constant v) q r g two lt f =
-      let f′ = then q (opcode 175) (v ∷ r) f in (
-        at-mark q 175 (v ∷ r) (omega arith) two (omega arith) f
+      let f′ = then q (opcode constantCode) (v ∷ r) f in (
+        at-mark q constantCode (v ∷ r) (omega arith) two (omega arith) f
             ∙ (rw (kind-constant, lt-ltb (suc (suc q)) (t .used) lt, cell-at (suc q) v r f′, g)),
         then (suc q) v r f′,
       )
   operation-at (print b) q r g two lt f =
-      let f′ = then q (opcode 167) (pos (length b) ∷ byteCells b r) f in
+      let f′ = then q (opcode printCode) (pos (length b) ∷ byteCells b r) f in
       let m = forward-le (length b) (suc (suc q)) in
       let h = bytes-at b (suc (suc q)) r (λ b′. code (operateAt (print b′) (forward (length b) (suc (suc q))))) g (then (suc q) (pos (length b)) (byteCells b r) f′) in (
-        at-mark q 167 (pos (length b) ∷ byteCells b r) (omega arith) two (omega arith) f
+        at-mark q printCode (pos (length b) ∷ byteCells b r) (omega arith) two (omega arith) f
             ∙ (rw (kind-print, lt-ltb (suc (suc q)) (t .used) (omega arith), cell-at (suc q) (pos (length b)) (byteCells b r) f′, lt-ltb (forward (length b) (suc (suc q))) (t .used) lt) (h .0)),
         h .1,
       )
@@ -193,10 +194,10 @@ module _ (t : Table) where
         then (suc q) (pos f) r e′,
       )
   predicate-at (counter m k) q f r g two lt two′ le e =
-      let e₁ = then q (opcode 36) (opcode (suc m) ∷ pos k ∷ pos f ∷ r) e in
+      let e₁ = then q (opcode counterCode) (opcode (suc m) ∷ pos k ∷ pos f ∷ r) e in
       let e₂ = then (suc q) (opcode (suc m)) (pos k ∷ pos f ∷ r) e₁ in
       let e₃ = then (suc (suc q)) (pos k) (pos f ∷ r) e₂ in (
-        at-mark q 36 (opcode (suc m) ∷ pos k ∷ pos f ∷ r) (omega arith) two (omega arith) e
+        at-mark q counterCode (opcode (suc m) ∷ pos k ∷ pos f ∷ r) (omega arith) two (omega arith) e
             ∙ (rw (
               kind-counter,
               lt-ltb (suc (suc (suc (suc q)))) (t .used) lt,
@@ -208,19 +209,19 @@ module _ (t : Table) where
         then (suc (suc (suc q))) (pos f) r e₃,
       )
 
-  call-at : (a q f : ℕ) (r : List ℤ) → a < 26 → 2 ≤ q → afterCall q < t .used → 2 ≤ f → f ≤ t .used → From q (opcode (97 + a) ∷ pos f ∷ r)
+  call-at : (a q f : ℕ) (r : List ℤ) → a < maxLetters → 2 ≤ q → afterCall q < t .used → 2 ≤ f → f ≤ t .used → From q (opcode (letterByte a) ∷ pos f ∷ r)
       → (decode t q ≡ code (callAt a (afterCall q) f)) × From (afterCall q) r
   unfolding mark sound
   call-at a q f r g two lt two′ le e =
-      let e′ = then q (opcode (97 + a)) (pos f ∷ r) e in (
-        at-mark q (97 + a) (pos f ∷ r) (omega arith) two (omega arith) e
+      let e′ = then q (opcode (letterByte a)) (pos f ∷ r) e in (
+        at-mark q (letterByte a) (pos f ∷ r) (omega arith) two (omega arith) e
             ∙ (rw (kind-call a g, lt-ltb (suc (suc q)) (t .used) lt) (exit-at (suc q) f r _ two′ le e′)),
         then (suc q) (pos f) r e′,
       )
 
   transfer-at : (q n : ℕ) (r : List ℤ) → 2 ≤ q → suc q < t .used → 2 ≤ n → n ≤ t .used → From q (pos n ∷ r) → decode t q ≡ code (transfer n)
   unfolding early sound
-  transfer-at q n r two lt two′ le f = at-early q (pos n) r two lt f ∙ (rw (between-ok 2 (t .used) n two′ le))
+  transfer-at q n r two lt two′ le f = at-early q (pos n) r two lt f ∙ (rw (between-true 2 (t .used) n two′ le))
 
   -- ── expressions ───────────────────────────────────────────────────────────────────────────────
 

@@ -1,10 +1,16 @@
 -- Where marks stand in a table: positions grow along an expression, and false exits lie ahead within it.
-use Prim.Native.Nat.{ℕ, zero, suc, _≤_, _<_}
+use mathlib.Core.Path.{_≡_, _∙_}
+use Prim.Native.Nat.{ℕ, zero, suc, _+_, _≤_, _<_}
 use native.Mathlib.Omega.{arith}
 use lib.ListN.{length}
 use Rattle.language.specs.Syntax.{Operation, operator, variable, constant, print, Predicate, condition, counter}
 use Rattle.language.specs.Syntax.{Expr, close, semi, colon, operate, test, call, inner}
 use Rattle.language.specs.Layout.{forward, afterOperation, afterPredicate, afterCall, afterExpr, falseExit}
+
+-- n cells on
+pub forward-add : (n q : ℕ) → forward n q ≡ q + n
+forward-add zero q = omega arith
+forward-add (suc n) q = let e : suc q + n ≡ q + suc n = omega arith in forward-add n (suc q) ∙ e
 
 pub forward-le : (n q : ℕ) → q ≤ forward n q
 forward-le zero q = omega arith

@@ -19,3 +19,5 @@ pub mod TablesMeaning
 pub mod TokensComplete
 pub mod TokensSound
 pub mod Values
+pub mod Ints
+pub mod Tests

@@ -2,11 +2,14 @@
 use mathlib.Core.Path.{_≡_, refl, ap, _∙_}
 use Prim.Native.Nat.{ℕ, zero, suc, _+_, _*_, _-_, _≤_, _<_}
 use native.Mathlib.Omega.{arith}
-use mathlib.Core.Bool.{Bool, true, false, cond, _&&_, false≢true}
+use mathlib.Core.Bool.{Bool, true, false, cond, false≢true}
 use mathlib.Core.List.{List, [], _∷_, _++_, reverseAux}
 use lib.ListN.{length}
-use lib.Dec.{leb, ltb, eqb}
-use borrow.Author.Tests.{le-leb, lt-ltb, ne-eqb}
+use lib.Dec.{ltb, eqb}
+use borrow.Author.Tests.{lt-ltb, ne-eqb}
+use Rattle.language.specs.Limits.{maxLetters}
+use Rattle.language.specs.Letters.{firstLetter, lastLetter, letterByte}
+use Rattle.language.specs.Bytes.{digitByte, isDigit, minusByte, newlineByte, quoteByte, tickByte}
 use Rattle.language.specs.declared.Refusal.{Refusal}
 use Rattle.language.specs.Syntax.{Operator, absolute, discard, negate, copy, write, newline, input, add, subtract, multiply, divide, operatorByte}
 use Rattle.language.specs.Syntax.{Access, fetch, save, accessByte, Condition, negative, null, equal, conditionByte}
@@ -18,6 +21,7 @@ use Rattle.language.specs.Tokens.{commentByte, printByte, Form, counterF
 use Rattle.language.specs.Tokens.{unless, first, numeral, numbered, slashed, accessed, printed, commented, tokens}
 use Rattle.language.specs.Grammar.{Lexeme, print-of, operator-of, variable-of, condition-of, call-of, counter-of, constant-of, left, right, comma, colon-sign}
 use Rattle.language.specs.Grammar.{digitBytes, minusSign, spellAll, AllBytes, Digits, valueFrom, Number, AllFormed, marksOf}
+use Rattle.language.proofs.Between.{between-true}
 use Rattle.language.proofs.GrammarMarks.{tokensOf}
 
 -- ── bytes ───────────────────────────────────────────────────────────────────────────────────────
@@ -47,19 +51,16 @@ class-condition negative = refl
 class-condition null = refl
 class-condition equal = refl
 
-between-true : (a b n : ℕ) → a ≤ n → n ≤ b → between a b n ≡ true
-between-true a b n h k = ap (λ u. u && leb n b) (le-leb a n h) ∙ ap (λ u. true && u) (le-leb n b k)
-
-class-call : (a : ℕ) → a < 26 → class (97 + a) ≡ calling a
+class-call : (a : ℕ) → a < maxLetters → class (letterByte a) ≡ calling a
 unfolding class
 class-call a h =
-    ap (λ u. cond u (calling ((97 + a) - 97)) (lookup classes stray (97 + a))) (between-true 97 122 (97 + a) (omega arith) (omega arith))
+    ap (λ u. cond u (calling (letterByte a - firstLetter)) (lookup classes stray (letterByte a))) (between-true firstLetter lastLetter (letterByte a) (omega arith) (omega arith))
     ∙ ap calling (omega arith)
 
-digit-true : (d : ℕ) → d < 10 → between 48 57 (48 + d) ≡ true
-digit-true d h = between-true 48 57 (48 + d) (omega arith) (omega arith)
+digit-true : (d : ℕ) → d < 10 → isDigit (digitByte d) ≡ true
+digit-true d h = between-true (digitByte 0) (digitByte 9) (digitByte d) (omega arith) (omega arith)
 
-digit-of : (d : ℕ) → (48 + d) - 48 ≡ d
+digit-of : (d : ℕ) → digitByte d - digitByte 0 ≡ d
 digit-of d = omega arith
 
 -- ── forms ───────────────────────────────────────────────────────────────────────────────────────
@@ -75,11 +76,11 @@ commented-inside true v k h = absurd (false≢true h)
 commented-inside false true k h = refl
 commented-inside false false k h = absurd (false≢true h)
 
-comment-tokens : (b r : List ℕ) → AllBytes commentByte b → tokens (b ++ 34 ∷ r) comment ≡ tokens r idle
+comment-tokens : (b r : List ℕ) → AllBytes commentByte b → tokens (b ++ quoteByte ∷ r) comment ≡ tokens r idle
 unfolding tokens
 comment-tokens [] r h = refl
 comment-tokens (b ∷ l) r h =
-    commented-inside (eqb b 34) (cond (eqb b 10) true (between 32 126 b)) (λ m. tokens (l ++ 34 ∷ r) m) (h .0) ∙ comment-tokens l r (h .1)
+    commented-inside (eqb b quoteByte) (cond (eqb b newlineByte) true (between 32 126 b)) (λ m. tokens (l ++ quoteByte ∷ r) m) (h .0) ∙ comment-tokens l r (h .1)
 
 printed-inside : (u v : Bool) (b : ℕ) (p : List ℕ) (k : Mode → List Token) → cond u false v ≡ true
     → printed u (cond u false v) b p k ≡ k (printing (b ∷ p))
@@ -88,11 +89,11 @@ printed-inside true v b p k h = absurd (false≢true h)
 printed-inside false true b p k h = refl
 printed-inside false false b p k h = absurd (false≢true h)
 
-print-tokens : (b p r : List ℕ) → AllBytes printByte b → tokens (b ++ 39 ∷ r) (printing p) ≡ does (print (reverseAux p b)) ∷ tokens r idle
+print-tokens : (b p r : List ℕ) → AllBytes printByte b → tokens (b ++ tickByte ∷ r) (printing p) ≡ does (print (reverseAux p b)) ∷ tokens r idle
 unfolding tokens
 print-tokens [] p r h = refl
 print-tokens (b ∷ l) p r h =
-    printed-inside (eqb b 39) (between 32 126 b) b p (λ m. tokens (l ++ 39 ∷ r) m) (h .0) ∙ print-tokens l (b ∷ p) r (h .1)
+    printed-inside (eqb b tickByte) (between 32 126 b) b p (λ m. tokens (l ++ tickByte ∷ r) m) (h .0) ∙ print-tokens l (b ∷ p) r (h .1)
 
 number-tokens : (ds : List ℕ) (f : Form) (n v : ℕ) (r : List ℕ) → Digits ds → 1 ≤ n + length ds → n + length ds ≤ mostDigits f
     → tokens (digitBytes ds (closingByte f ∷ r)) (number f n v) ≡ numeral f (valueFrom v ds) (λ m. tokens r m)
@@ -103,8 +104,8 @@ number-tokens [] (constantForm s) n v r h lo hi =
     unless-true (ltb 0 n) (formFault (constantForm s)) (λ _. numeral (constantForm s) v (λ m. tokens r m)) (lt-ltb 0 n (omega arith))
 number-tokens (d ∷ ds) f n v r h lo hi =
     let k : Mode → List Token = λ m. tokens (digitBytes ds (closingByte f ∷ r)) m in
-    ap (λ u. numbered u (eqb (48 + d) (closingByte f)) (48 + d) f n v k) (digit-true d (h .0))
-    ∙ unless-true (ltb n (mostDigits f)) (formFault f) (λ _. k (number f (suc n) (10 * v + ((48 + d) - 48)))) (lt-ltb n (mostDigits f) (omega arith))
+    ap (λ u. numbered u (eqb (digitByte d) (closingByte f)) (digitByte d) f n v k) (digit-true d (h .0))
+    ∙ unless-true (ltb n (mostDigits f)) (formFault f) (λ _. k (number f (suc n) (10 * v + (digitByte d - digitByte 0)))) (lt-ltb n (mostDigits f) (omega arith))
     ∙ ap (λ x. k (number f (suc n) (10 * v + x))) (digit-of d)
     ∙ number-tokens ds f (suc n) (10 * v + d) r (h .1) (omega arith) (omega arith)
 
@@ -114,12 +115,12 @@ counter-numeral zero k h = absurd (omega arith)
 counter-numeral (suc m) k h = ap (λ x. counts x ∷ k idle) (omega arith)
 
 constant-tokens : (s : Bool) (ds r : List ℕ) → Number (constantForm s) ds
-    → tokens (minusSign s (digitBytes ds (39 ∷ r))) after-slash ≡ does (constant (signed s (valueFrom 0 ds))) ∷ tokens r idle
+    → tokens (minusSign s (digitBytes ds (tickByte ∷ r))) after-slash ≡ does (constant (signed s (valueFrom 0 ds))) ∷ tokens r idle
 unfolding tokens
 constant-tokens true ds r h = number-tokens ds (constantForm true) 0 0 r (h .0) (omega arith) (omega arith)
 constant-tokens false [] r h = absurd (omega arith)
 constant-tokens false (d ∷ ds) r h =
-    ap (λ u. slashed u (48 + d) (λ m. tokens (digitBytes ds (39 ∷ r)) m)) (ne-eqb (48 + d) 45 (λ e. omega arith))
+    ap (λ u. slashed u (digitByte d) (λ m. tokens (digitBytes ds (tickByte ∷ r)) m)) (ne-eqb (digitByte d) minusByte (λ e. omega arith))
     ∙ number-tokens (d ∷ ds) (constantForm false) 0 0 r (h .0) (omega arith) (omega arith)
 
 -- ── texts ───────────────────────────────────────────────────────────────────────────────────────
@@ -139,8 +140,8 @@ lexing-complete (Lexeme.point ∷ xs) c h = ap (λ l. colons ∷ l) (lexing-comp
 lexing-complete (operator-of o ∷ xs) c h =
     ap (λ u. first u (λ m. tokens (spellAll xs) m)) (class-operator o) ∙ ap (λ l. begins ∷ does (operator o) ∷ l) (lexing-complete xs c (h .1))
 lexing-complete (variable-of a d ∷ xs) c h =
-    ap (λ u. first u (λ m. tokens ((48 + d) ∷ spellAll xs) m)) (class-access a)
-    ∙ ap (λ u. begins ∷ accessed u a ((48 + d) - 48) (λ m. tokens (spellAll xs) m)) (digit-true d (h .0))
+    ap (λ u. first u (λ m. tokens (digitByte d ∷ spellAll xs) m)) (class-access a)
+    ∙ ap (λ u. begins ∷ accessed u a (digitByte d - digitByte 0) (λ m. tokens (spellAll xs) m)) (digit-true d (h .0))
     ∙ ap (λ x. begins ∷ does (variable a (digitCell x)) ∷ tokens (spellAll xs) idle) (digit-of d)
     ∙ ap (λ l. begins ∷ does (variable a (digitCell d)) ∷ l) (lexing-complete xs c (h .1))
 lexing-complete (condition-of t ∷ xs) c h =

@@ -2,11 +2,13 @@
 use mathlib.Core.Path.{_≡_, refl, sym, ap, _∙_, subst}
 use Prim.Native.Nat.{ℕ, zero, suc, _+_, _*_, _-_, _≤_}
 use native.Mathlib.Omega.{arith}
-use mathlib.Core.Bool.{Bool, true, false, cond, _&&_, false≢true}
+use mathlib.Core.Bool.{Bool, true, false, cond}
 use mathlib.Core.List.{List, [], _∷_, _++_}
 use lib.ListN.{length}
-use lib.Dec.{leb, ltb, eqb}
-use borrow.Author.Tests.{leb-true, ltb-true, eqb-true}
+use lib.Dec.{ltb, eqb}
+use borrow.Author.Tests.{ltb-true, eqb-true}
+use Rattle.language.specs.Letters.{firstLetter, lastLetter}
+use Rattle.language.specs.Bytes.{digitByte, dollarByte, isDigit, minusByte, quoteByte, slashByte, tickByte}
 use Rattle.language.specs.declared.Refusal.{Refusal}
 use Rattle.language.specs.Syntax.{absolute, discard, negate, copy, write, newline, input, add, subtract, multiply, divide}
 use Rattle.language.specs.Syntax.{Access, accessByte, negative, null, equal}
@@ -17,18 +19,10 @@ use Rattle.language.specs.Tokens.{commentByte, printByte, Form, counterF
 use Rattle.language.specs.Tokens.{unless, first, numeral, numbered, scanNumber, slashed, ticked, accessed, printed, commented, scan, tokens}
 use Rattle.language.specs.Grammar.{Lexeme, print-of, operator-of, variable-of, condition-of, call-of, counter-of, constant-of, left, right, comma, colon-sign}
 use Rattle.language.specs.Grammar.{digitBytes, spell, spellAll, AllBytes, Digits, valueFrom, Formed, AllFormed}
+use Rattle.language.proofs.Between.{between-bounds}
 use Rattle.language.proofs.ReadingParsing.{Clean}
 
 -- ── tests ───────────────────────────────────────────────────────────────────────────────────────
-
-between-sound : (a b n : ℕ) → between a b n ≡ true → (a ≤ n) × (n ≤ b)
-between-sound a b n h = go (leb a n) (leb n b) refl refl h
-  where
-    go : (u v : Bool) → leb a n ≡ u → leb n b ≡ v → (u && v) ≡ true → (a ≤ n) × (n ≤ b)
-    go true true p q e = (leb-true a n p, leb-true n b q)
-    go true false p q e = absurd (false≢true e)
-    go false true p q e = absurd (false≢true e)
-    go false false p q e = absurd (false≢true e)
 
 by-true : (u : Bool) (P : Bool → Type 0) → (u ≡ true → P true) → P false → P u
 by-true true P t f = t refl
@@ -43,13 +37,13 @@ Single b = (x : Lexeme) × Formed x × ((r : List ℕ) → b ∷ r ≡ spell x r
 -- what a byte of a class is
 abbrev Classed : Class → ℕ → Type 0
 Classed blank b = Single b
-Classed quote b = b ≡ 34
+Classed quote b = b ≡ quoteByte
 Classed opening b = Single b
 Classed closing b = Single b
 Classed semicolon b = Single b
 Classed point b = Single b
-Classed dollar b = b ≡ 36
-Classed tick b = b ≡ 39
+Classed dollar b = b ≡ dollarByte
+Classed tick b = b ≡ tickByte
 Classed stray b = Unit {0}
 Classed (operating o) b = Single b
 Classed (accessing a) b = b ≡ accessByte a
@@ -105,8 +99,8 @@ all-classed =
 class-classed : (b : ℕ) → Classed (class b) b
 unfolding class
 class-classed b =
-    by-true (between 97 122 b) (λ u. Classed (cond u (calling (b - 97)) (lookup classes stray b)) b)
-    (λ q. let h = between-sound 97 122 b q in (call-of (b - 97), omega arith, λ r. ap (λ n. n ∷ r) (omega arith)))
+    by-true (between firstLetter lastLetter b) (λ u. Classed (cond u (calling (b - firstLetter)) (lookup classes stray b)) b)
+    (λ q. let h = between-bounds firstLetter lastLetter b q in (call-of (b - firstLetter), omega arith, λ r. ap (λ n. n ∷ r) (omega arith)))
     (lookup-classed classes b all-classed)
 
 -- ── what bytes with no fault hold, from a mode on ───────────────────────────────────────────────
@@ -132,12 +126,12 @@ Numeral f n v l =
 -- what is left of the lexeme of a mode, and then lexemes
 abbrev Rest : Mode → List ℕ → Type 0
 Rest idle l = Spelled l
-Rest comment l = Delimited commentByte 34 l
-Rest after-tick l = Spelled (39 ∷ l)
-Rest after-slash l = Spelled (39 ∷ 47 ∷ l)
+Rest comment l = Delimited commentByte quoteByte l
+Rest after-tick l = Spelled (tickByte ∷ l)
+Rest after-slash l = Spelled (tickByte ∷ slashByte ∷ l)
 Rest (after-access a) l = Spelled (accessByte a ∷ l)
 Rest (number f n v) l = n ≤ mostDigits f → Numeral f n v l
-Rest (printing p) l = Delimited printByte 39 l
+Rest (printing p) l = Delimited printByte tickByte l
 
 unless-clean : (u : Bool) (r : Refusal) (k : Unit {0} → List Token) → Clean (unless u r k) → (u ≡ true) × Clean (k tt)
 unfolding unless
@@ -156,14 +150,14 @@ module _ (l : List ℕ) (k : Mode → List Token) (rest : (m : Mode) → Clean (
   first-sound blank b h c = single-sound b h c
   first-sound quote b h c =
       let (bs, r, hb, s, e) = rest comment c in
-      spelled (Lexeme.comment bs) (b ∷ l) r hb s (ap (λ n. n ∷ l) h ∙ ap (λ m. 34 ∷ m) e)
+      spelled (Lexeme.comment bs) (b ∷ l) r hb s (ap (λ n. n ∷ l) h ∙ ap (λ m. quoteByte ∷ m) e)
   first-sound opening b h c = single-sound b h c
   first-sound closing b h c = single-sound b h c
   first-sound semicolon b h c = single-sound b h c
   first-sound point b h c = single-sound b h c
   first-sound dollar b h c =
       let (ds, r, hd, lo, hi, hv, s, e) = rest (number counterForm 0 0) c (omega arith) in
-      spelled (counter-of ds) (b ∷ l) r ((hd, omega arith, omega arith), hv) s (ap (λ n. n ∷ l) h ∙ ap (λ m. 36 ∷ m) e)
+      spelled (counter-of ds) (b ∷ l) r ((hd, omega arith, omega arith), hv) s (ap (λ n. n ∷ l) h ∙ ap (λ m. dollarByte ∷ m) e)
   first-sound tick b h c = subst (λ n. Spelled (n ∷ l)) (sym h) (rest after-tick c)
   first-sound stray b h c = absurd c
   first-sound (operating o) b h c = single-sound b h c
@@ -171,15 +165,15 @@ module _ (l : List ℕ) (k : Mode → List Token) (rest : (m : Mode) → Clean (
   first-sound (comparing t) b h c = single-sound b h c
   first-sound (calling a) b h c = single-sound b h c
 
-  commented-sound : (b : ℕ) (u v : Bool) → eqb b 34 ≡ u → commentByte b ≡ v → Clean (commented u v k) → Delimited commentByte 34 (b ∷ l)
+  commented-sound : (b : ℕ) (u v : Bool) → eqb b quoteByte ≡ u → commentByte b ≡ v → Clean (commented u v k) → Delimited commentByte quoteByte (b ∷ l)
   unfolding commented
-  commented-sound b true v p q c = ([], l, tt, rest idle c, ap (λ n. n ∷ l) (eqb-true b 34 p))
+  commented-sound b true v p q c = ([], l, tt, rest idle c, ap (λ n. n ∷ l) (eqb-true b quoteByte p))
   commented-sound b false true p q c = let (bs, r, hb, s, e) = rest comment c in (b ∷ bs, r, (q, hb), s, ap (λ m. b ∷ m) e)
   commented-sound b false false p q c = absurd c
 
-  printed-sound : (b : ℕ) (a : List ℕ) (u v : Bool) → eqb b 39 ≡ u → printByte b ≡ v → Clean (printed u v b a k) → Delimited printByte 39 (b ∷ l)
+  printed-sound : (b : ℕ) (a : List ℕ) (u v : Bool) → eqb b tickByte ≡ u → printByte b ≡ v → Clean (printed u v b a k) → Delimited printByte tickByte (b ∷ l)
   unfolding printed
-  printed-sound b a true v p q c = ([], l, tt, rest idle c, ap (λ n. n ∷ l) (eqb-true b 39 p))
+  printed-sound b a true v p q c = ([], l, tt, rest idle c, ap (λ n. n ∷ l) (eqb-true b tickByte p))
   printed-sound b a false true p q c = let (bs, r, hb, s, e) = rest (printing (b ∷ a)) c in (b ∷ bs, r, (q, hb), s, ap (λ m. b ∷ m) e)
   printed-sound b a false false p q c = absurd c
 
@@ -189,16 +183,16 @@ module _ (l : List ℕ) (k : Mode → List Token) (rest : (m : Mode) → Clean (
   numeral-sound counterForm (suc m) c = (omega arith, c)
   numeral-sound (constantForm s) v c = (tt, c)
 
-  numbered-sound : (b : ℕ) (f : Form) (n v : ℕ) (u w : Bool) → between 48 57 b ≡ u → eqb b (closingByte f) ≡ w → Clean (numbered u w b f n v k)
+  numbered-sound : (b : ℕ) (f : Form) (n v : ℕ) (u w : Bool) → isDigit b ≡ u → eqb b (closingByte f) ≡ w → Clean (numbered u w b f n v k)
       → n ≤ mostDigits f → Numeral f n v (b ∷ l)
   unfolding numbered
   numbered-sound b f n v true w p q c hn =
-      let h = between-sound 48 57 b p in
-      let g = unless-clean (ltb n (mostDigits f)) (formFault f) (λ _. k (number f (suc n) (10 * v + (b - 48)))) c in
+      let h = between-bounds (digitByte 0) (digitByte 9) b p in
+      let g = unless-clean (ltb n (mostDigits f)) (formFault f) (λ _. k (number f (suc n) (10 * v + (b - digitByte 0)))) c in
       let lt = ltb-true n (mostDigits f) (g .0) in
-      let (ds, r, hd, lo, hi, hv, s, e) = rest (number f (suc n) (10 * v + (b - 48))) (g .1) lt in
-      let eb : b ≡ 48 + (b - 48) = omega arith in
-      ((b - 48) ∷ ds, r, (omega arith, hd), omega arith, omega arith, hv, s, ap (λ n. n ∷ l) eb ∙ ap (λ m. (48 + (b - 48)) ∷ m) e)
+      let (ds, r, hd, lo, hi, hv, s, e) = rest (number f (suc n) (10 * v + (b - digitByte 0))) (g .1) lt in
+      let eb : b ≡ digitByte (b - digitByte 0) = omega arith in
+      ((b - digitByte 0) ∷ ds, r, (omega arith, hd), omega arith, omega arith, hv, s, ap (λ n. n ∷ l) eb ∙ ap (λ m. digitByte (b - digitByte 0) ∷ m) e)
   numbered-sound b f n v false true p q c hn =
       let g = unless-clean (ltb 0 n) (formFault f) (λ _. numeral f v k) c in
       let lt = ltb-true 0 n (g .0) in
@@ -208,42 +202,42 @@ module _ (l : List ℕ) (k : Mode → List Token) (rest : (m : Mode) → Clean (
 
   number-sound : (b : ℕ) (f : Form) (n v : ℕ) → Clean (scanNumber f n v b k) → n ≤ mostDigits f → Numeral f n v (b ∷ l)
   unfolding scanNumber
-  number-sound b f n v c hn = numbered-sound b f n v (between 48 57 b) (eqb b (closingByte f)) refl refl c hn
+  number-sound b f n v c hn = numbered-sound b f n v (isDigit b) (eqb b (closingByte f)) refl refl c hn
 
-  ticked-sound : (b : ℕ) (u v : Bool) → eqb b 39 ≡ u → eqb b 47 ≡ v → Clean (ticked u v k) → Spelled (39 ∷ b ∷ l)
+  ticked-sound : (b : ℕ) (u v : Bool) → eqb b tickByte ≡ u → eqb b slashByte ≡ v → Clean (ticked u v k) → Spelled (tickByte ∷ b ∷ l)
   unfolding ticked
   ticked-sound b true v p q c =
       let (bs, r, hb, s, e) = rest (printing []) c in
-      spelled (print-of bs) (39 ∷ b ∷ l) r hb s (ap (λ n. 39 ∷ n ∷ l) (eqb-true b 39 p) ∙ ap (λ m. 39 ∷ 39 ∷ m) e)
-  ticked-sound b false true p q c = subst (λ n. Spelled (39 ∷ n ∷ l)) (sym (eqb-true b 47 q)) (rest after-slash c)
+      spelled (print-of bs) (tickByte ∷ b ∷ l) r hb s (ap (λ n. tickByte ∷ n ∷ l) (eqb-true b tickByte p) ∙ ap (λ m. tickByte ∷ tickByte ∷ m) e)
+  ticked-sound b false true p q c = subst (λ n. Spelled (tickByte ∷ n ∷ l)) (sym (eqb-true b slashByte q)) (rest after-slash c)
   ticked-sound b false false p q c = absurd c
 
-  slashed-sound : (b : ℕ) (u : Bool) → eqb b 45 ≡ u → Clean (slashed u b k) → Spelled (39 ∷ 47 ∷ b ∷ l)
+  slashed-sound : (b : ℕ) (u : Bool) → eqb b minusByte ≡ u → Clean (slashed u b k) → Spelled (tickByte ∷ slashByte ∷ b ∷ l)
   unfolding slashed
   slashed-sound b true p c =
       let (ds, r, hd, lo, hi, hv, s, e) = rest (number (constantForm true) 0 0) c (omega arith) in
-      spelled (constant-of true ds) (39 ∷ 47 ∷ b ∷ l) r (hd, omega arith, omega arith) s
-      (ap (λ n. 39 ∷ 47 ∷ n ∷ l) (eqb-true b 45 p) ∙ ap (λ m. 39 ∷ 47 ∷ 45 ∷ m) e)
+      spelled (constant-of true ds) (tickByte ∷ slashByte ∷ b ∷ l) r (hd, omega arith, omega arith) s
+      (ap (λ n. tickByte ∷ slashByte ∷ n ∷ l) (eqb-true b minusByte p) ∙ ap (λ m. tickByte ∷ slashByte ∷ minusByte ∷ m) e)
   slashed-sound b false p c =
       let (ds, r, hd, lo, hi, hv, s, e) = number-sound b (constantForm false) 0 0 c (omega arith) in
-      spelled (constant-of false ds) (39 ∷ 47 ∷ b ∷ l) r (hd, omega arith, omega arith) s (ap (λ m. 39 ∷ 47 ∷ m) e)
+      spelled (constant-of false ds) (tickByte ∷ slashByte ∷ b ∷ l) r (hd, omega arith, omega arith) s (ap (λ m. tickByte ∷ slashByte ∷ m) e)
 
-  accessed-sound : (b : ℕ) (a : Access) (u : Bool) → between 48 57 b ≡ u → Clean (accessed u a (b - 48) k) → Spelled (accessByte a ∷ b ∷ l)
+  accessed-sound : (b : ℕ) (a : Access) (u : Bool) → isDigit b ≡ u → Clean (accessed u a (b - digitByte 0) k) → Spelled (accessByte a ∷ b ∷ l)
   unfolding accessed
   accessed-sound b a true p c =
-      let h = between-sound 48 57 b p in
-      spelled (variable-of a (b - 48)) (accessByte a ∷ b ∷ l) l (omega arith) (rest idle c) (ap (λ n. accessByte a ∷ n ∷ l) (omega arith))
+      let h = between-bounds (digitByte 0) (digitByte 9) b p in
+      spelled (variable-of a (b - digitByte 0)) (accessByte a ∷ b ∷ l) l (omega arith) (rest idle c) (ap (λ n. accessByte a ∷ n ∷ l) (omega arith))
   accessed-sound b a false p c = absurd c
 
   scan-sound : (m : Mode) (b : ℕ) → Clean (scan m b k) → Rest m (b ∷ l)
   unfolding scan
   scan-sound idle b c = first-sound (class b) b (class-classed b) c
-  scan-sound comment b c = commented-sound b (eqb b 34) (commentByte b) refl refl c
-  scan-sound after-tick b c = ticked-sound b (eqb b 39) (eqb b 47) refl refl c
-  scan-sound after-slash b c = slashed-sound b (eqb b 45) refl c
-  scan-sound (after-access a) b c = accessed-sound b a (between 48 57 b) refl c
+  scan-sound comment b c = commented-sound b (eqb b quoteByte) (commentByte b) refl refl c
+  scan-sound after-tick b c = ticked-sound b (eqb b tickByte) (eqb b slashByte) refl refl c
+  scan-sound after-slash b c = slashed-sound b (eqb b minusByte) refl c
+  scan-sound (after-access a) b c = accessed-sound b a (isDigit b) refl c
   scan-sound (number f n v) b c = number-sound b f n v c
-  scan-sound (printing p) b c = printed-sound b p (eqb b 39) (printByte b) refl refl c
+  scan-sound (printing p) b c = printed-sound b p (eqb b tickByte) (printByte b) refl refl c
 
 rest-sound : (l : List ℕ) (m : Mode) → Clean (tokens l m) → Rest m l
 unfolding tokens

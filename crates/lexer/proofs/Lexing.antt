@@ -1,21 +1,19 @@
 -- The tokens of a text from a place on, one byte at a time.
 use mathlib.Core.Path.{_≡_, refl, sym, ap, _∙_, subst}
-use mathlib.Core.Bool.{Bool, true, false, _&&_}
+use mathlib.Core.Bool.{true, false}
 use mathlib.Core.List.{List, [], _∷_, reverse, reverse-append}
 use mathlib.Core.Logic.{_⊎_, inl, inr}
-use Prim.Native.Nat.{ℕ, zero, suc, _+_, _*_, _-_, _^_, _≤_, _<_}
+use Prim.Native.Nat.{ℕ, zero, suc, _+_, _*_, _-_, _≤_, _<_}
 use native.Mathlib.Numerals.{add-one}
 use native.Mathlib.Omega.{arith}
-use native.Mathlib.Nat.{pow-suc}
 use lib.ListN.{length, getD, take, drop, drop-of-length-le, length-drop}
 use lib.Seq.{drop-cons, take-suc, getD-drop}
-use lib.Dec.{leb, ltb}
-use borrow.Author.Tests.{eq-eqb, ne-eqb, le-leb, lt-leb, ltb-true, ltb-false, lt-ltb, le-ltb}
+use borrow.Author.Tests.{eq-eqb, ne-eqb, le-leb, lt-leb, lt-ltb, le-ltb}
+use Rattle.language.specs.Bytes.{newlineByte, quoteByte, tickByte, minusByte, slashByte, digitByte, isDigit}
 use Rattle.language.specs.declared.Refusal.{Refusal}
 use Rattle.language.specs.declared.Refusal.the-variants.{StrayMark, BadCounter}
 use Rattle.language.specs.Syntax.{Access, variable, print}
 use Rattle.language.specs.Tokens.{Token, begins, ends, does, counts, faults, Class, class, digitCell}
-use Rattle.language.specs.Between.{between}
 use Rattle.language.specs.Tokens.{Form, counterForm, mostDigits, closingByte, formFault, constantForm, Mode, idle, comment, after-tick, after-slash, after-access, number, printing}
 use Rattle.lexer.specs.Lexing.{refusalOf, NumberIs, SkipsTo, Skips, Means, Lexes, Takes}
 use Rattle.lexer.specs.declared.Number.{Number}
@@ -26,27 +24,8 @@ use Rattle.lexer.specs.declared.Lexed.{Lexed}
 use Rattle.lexer.specs.declared.Skipped.{Skipped}
 use Rattle.lexer.specs.declared.Skipped.the-variants as S
 use Rattle.language.specs.Tokens.{unless, first, numeral, numbered, scanNumber, slashed, ticked, accessed, printed, commented, scan, finish, tokens}
-
-pub between-true : (a b n : ℕ) → a ≤ n → n ≤ b → between a b n ≡ true
-between-true a b n h k = simp (le-leb a n h, le-leb n b k)
-
-pub between-low : (a b n : ℕ) → n < a → between a b n ≡ false
-between-low a b n h = simp (lt-leb a n h)
-
-pub between-high : (a b n : ℕ) → b < n → between a b n ≡ false
-between-high a b n h = go (leb a n)
-  where
-    go : (t : Bool) → (t && leb n b) ≡ false
-    go true = lt-leb n b h
-    go false = refl
-
--- by the test of an order
-pub by-ltb : (a b : ℕ) (P : Type 0) → (a < b → P) → (b ≤ a → P) → P
-by-ltb a b P f g = go (ltb a b) refl
-  where
-    go : (t : Bool) → ltb a b ≡ t → P
-    go true e = f (ltb-true a b e)
-    go false e = g (ltb-false a b e)
+use Rattle.language.proofs.Tests.{by-ltb}
+use Rattle.language.proofs.Between.{between-true, between-low, between-high}
 
 module _ (s : List ℕ) (i : ℕ) where
   pub tokens-at : (m : Mode) → i < length s → tokens (drop i s) m ≡ scan m (getD s i 0) (λ m′. tokens (drop (i + 1) s) m′)
@@ -60,79 +39,79 @@ module _ (s : List ℕ) (i : ℕ) where
 module _ (s : List ℕ) (i : ℕ) (h : i < length s) where
   -- ── comments ──────────────────────────────────────────────────────────────────────────────────
 
-  pub comment-end : getD s i 0 ≡ 34 → tokens (drop i s) comment ≡ tokens (drop (i + 1) s) idle
+  pub comment-end : getD s i 0 ≡ quoteByte → tokens (drop i s) comment ≡ tokens (drop (i + 1) s) idle
   unfolding scan commented
-  comment-end e = tokens-at s i comment h ∙ simp (eq-eqb (getD s i 0) 34 e)
+  comment-end e = tokens-at s i comment h ∙ simp (eq-eqb (getD s i 0) quoteByte e)
 
-  pub comment-on : (getD s i 0 ≡ 34 → ⊥) → (getD s i 0 ≡ 10) ⊎ (32 ≤ getD s i 0) → getD s i 0 ≤ 126 → tokens (drop i s) comment ≡ tokens (drop (i + 1) s) comment
+  pub comment-on : (getD s i 0 ≡ quoteByte → ⊥) → (getD s i 0 ≡ newlineByte) ⊎ (32 ≤ getD s i 0) → getD s i 0 ≤ 126 → tokens (drop i s) comment ≡ tokens (drop (i + 1) s) comment
   unfolding scan commented
-  comment-on n (inl e) u = tokens-at s i comment h ∙ simp (ne-eqb (getD s i 0) 34 n, eq-eqb (getD s i 0) 10 e)
+  comment-on n (inl e) u = tokens-at s i comment h ∙ simp (ne-eqb (getD s i 0) quoteByte n, eq-eqb (getD s i 0) newlineByte e)
   comment-on n (inr l) u =
-      tokens-at s i comment h ∙ simp (ne-eqb (getD s i 0) 34 n, ne-eqb (getD s i 0) 10 (λ e. omega arith), le-leb 32 (getD s i 0) l, le-leb (getD s i 0) 126 u)
+      tokens-at s i comment h ∙ simp (ne-eqb (getD s i 0) quoteByte n, ne-eqb (getD s i 0) newlineByte (λ e. omega arith), le-leb 32 (getD s i 0) l, le-leb (getD s i 0) 126 u)
 
-  pub comment-low : getD s i 0 < 32 → (getD s i 0 ≡ 10 → ⊥) → tokens (drop i s) comment ≡ faults StrayMark ∷ []
+  pub comment-low : getD s i 0 < 32 → (getD s i 0 ≡ newlineByte → ⊥) → tokens (drop i s) comment ≡ faults StrayMark ∷ []
   unfolding scan commented
-  comment-low l n = tokens-at s i comment h ∙ simp (ne-eqb (getD s i 0) 34 (λ e. omega arith), ne-eqb (getD s i 0) 10 n, lt-leb 32 (getD s i 0) l)
+  comment-low l n = tokens-at s i comment h ∙ simp (ne-eqb (getD s i 0) quoteByte (λ e. omega arith), ne-eqb (getD s i 0) newlineByte n, lt-leb 32 (getD s i 0) l)
 
   pub comment-high : 126 < getD s i 0 → tokens (drop i s) comment ≡ faults StrayMark ∷ []
   unfolding scan commented
   comment-high l =
-      tokens-at s i comment h ∙ simp (ne-eqb (getD s i 0) 34 (λ e. omega arith), ne-eqb (getD s i 0) 10 (λ e. omega arith), between-high 32 126 (getD s i 0) l)
+      tokens-at s i comment h ∙ simp (ne-eqb (getD s i 0) quoteByte (λ e. omega arith), ne-eqb (getD s i 0) newlineByte (λ e. omega arith), between-high 32 126 (getD s i 0) l)
 
   -- ── prints, after the bytes a, last first ─────────────────────────────────────────────────────
 
-  pub print-end : (a : List ℕ) → getD s i 0 ≡ 39 → tokens (drop i s) (printing a) ≡ does (print (reverse a)) ∷ tokens (drop (i + 1) s) idle
+  pub print-end : (a : List ℕ) → getD s i 0 ≡ tickByte → tokens (drop i s) (printing a) ≡ does (print (reverse a)) ∷ tokens (drop (i + 1) s) idle
   unfolding scan printed
-  print-end a e = tokens-at s i (printing a) h ∙ simp (eq-eqb (getD s i 0) 39 e)
+  print-end a e = tokens-at s i (printing a) h ∙ simp (eq-eqb (getD s i 0) tickByte e)
 
-  pub print-on : (a : List ℕ) → (getD s i 0 ≡ 39 → ⊥) → 32 ≤ getD s i 0 → getD s i 0 ≤ 126
+  pub print-on : (a : List ℕ) → (getD s i 0 ≡ tickByte → ⊥) → 32 ≤ getD s i 0 → getD s i 0 ≤ 126
       → tokens (drop i s) (printing a) ≡ tokens (drop (i + 1) s) (printing (getD s i 0 ∷ a))
   unfolding scan printed
-  print-on a n l u = tokens-at s i (printing a) h ∙ simp (ne-eqb (getD s i 0) 39 n, le-leb 32 (getD s i 0) l, le-leb (getD s i 0) 126 u)
+  print-on a n l u = tokens-at s i (printing a) h ∙ simp (ne-eqb (getD s i 0) tickByte n, le-leb 32 (getD s i 0) l, le-leb (getD s i 0) 126 u)
 
   pub print-low : (a : List ℕ) → getD s i 0 < 32 → tokens (drop i s) (printing a) ≡ faults StrayMark ∷ []
   unfolding scan printed
-  print-low a l = tokens-at s i (printing a) h ∙ simp (ne-eqb (getD s i 0) 39 (λ e. omega arith), lt-leb 32 (getD s i 0) l)
+  print-low a l = tokens-at s i (printing a) h ∙ simp (ne-eqb (getD s i 0) tickByte (λ e. omega arith), lt-leb 32 (getD s i 0) l)
 
   pub print-high : (a : List ℕ) → 126 < getD s i 0 → tokens (drop i s) (printing a) ≡ faults StrayMark ∷ []
   unfolding scan printed
-  print-high a l = tokens-at s i (printing a) h ∙ simp (ne-eqb (getD s i 0) 39 (λ e. omega arith), between-high 32 126 (getD s i 0) l)
+  print-high a l = tokens-at s i (printing a) h ∙ simp (ne-eqb (getD s i 0) tickByte (λ e. omega arith), between-high 32 126 (getD s i 0) l)
 
   -- ── numbers, after n digits of the value v ────────────────────────────────────────────────────
 
   module _ (f : Form) (n v : ℕ) where
-    pub number-closed : closingByte f < 48 → getD s i 0 ≡ closingByte f → (n ≡ 0 → ⊥)
+    pub number-closed : closingByte f < digitByte 0 → getD s i 0 ≡ closingByte f → (n ≡ 0 → ⊥)
         → tokens (drop i s) (number f n v) ≡ numeral f v (λ m. tokens (drop (i + 1) s) m)
     unfolding scan scanNumber numbered unless
     number-closed k q z =
         tokens-at s i (number f n v) h
-        ∙ simp (between-low 48 57 (getD s i 0) (omega arith), eq-eqb (getD s i 0) (closingByte f) q, lt-ltb 0 n (omega arith))
+        ∙ simp (between-low (digitByte 0) (digitByte 9) (getD s i 0) (omega arith), eq-eqb (getD s i 0) (closingByte f) q, lt-ltb 0 n (omega arith))
 
-    pub number-none : closingByte f < 48 → getD s i 0 ≡ closingByte f → n ≡ 0 → tokens (drop i s) (number f n v) ≡ faults (formFault f) ∷ []
+    pub number-none : closingByte f < digitByte 0 → getD s i 0 ≡ closingByte f → n ≡ 0 → tokens (drop i s) (number f n v) ≡ faults (formFault f) ∷ []
     unfolding scan scanNumber numbered unless
     number-none k q z =
         tokens-at s i (number f n v) h
-        ∙ simp (between-low 48 57 (getD s i 0) (omega arith), eq-eqb (getD s i 0) (closingByte f) q, le-ltb 0 n (omega arith))
+        ∙ simp (between-low (digitByte 0) (digitByte 9) (getD s i 0) (omega arith), eq-eqb (getD s i 0) (closingByte f) q, le-ltb 0 n (omega arith))
 
-    pub number-low : getD s i 0 < 48 → (getD s i 0 ≡ closingByte f → ⊥) → tokens (drop i s) (number f n v) ≡ faults (formFault f) ∷ []
+    pub number-low : getD s i 0 < digitByte 0 → (getD s i 0 ≡ closingByte f → ⊥) → tokens (drop i s) (number f n v) ≡ faults (formFault f) ∷ []
     unfolding scan scanNumber numbered
-    number-low l q = tokens-at s i (number f n v) h ∙ simp (lt-leb 48 (getD s i 0) l, ne-eqb (getD s i 0) (closingByte f) q)
+    number-low l q = tokens-at s i (number f n v) h ∙ simp (lt-leb (digitByte 0) (getD s i 0) l, ne-eqb (getD s i 0) (closingByte f) q)
 
-    pub number-high : closingByte f < 48 → 57 < getD s i 0 → tokens (drop i s) (number f n v) ≡ faults (formFault f) ∷ []
+    pub number-high : closingByte f < digitByte 0 → digitByte 9 < getD s i 0 → tokens (drop i s) (number f n v) ≡ faults (formFault f) ∷ []
     unfolding scan scanNumber numbered
     number-high k l =
-        tokens-at s i (number f n v) h ∙ simp (between-high 48 57 (getD s i 0) l, ne-eqb (getD s i 0) (closingByte f) (λ q. omega arith))
+        tokens-at s i (number f n v) h ∙ simp (between-high (digitByte 0) (digitByte 9) (getD s i 0) l, ne-eqb (getD s i 0) (closingByte f) (λ q. omega arith))
 
-    pub number-many : 48 ≤ getD s i 0 → getD s i 0 ≤ 57 → n ≡ mostDigits f → tokens (drop i s) (number f n v) ≡ faults (formFault f) ∷ []
+    pub number-many : digitByte 0 ≤ getD s i 0 → getD s i 0 ≤ digitByte 9 → n ≡ mostDigits f → tokens (drop i s) (number f n v) ≡ faults (formFault f) ∷ []
     unfolding scan scanNumber numbered unless
-    number-many l u q = tokens-at s i (number f n v) h ∙ simp (between-true 48 57 (getD s i 0) l u, le-ltb n (mostDigits f) (omega arith))
+    number-many l u q = tokens-at s i (number f n v) h ∙ simp (between-true (digitByte 0) (digitByte 9) (getD s i 0) l u, le-ltb n (mostDigits f) (omega arith))
 
-    pub number-on : 48 ≤ getD s i 0 → getD s i 0 ≤ 57 → n < mostDigits f
-        → tokens (drop i s) (number f n v) ≡ tokens (drop (i + 1) s) (number f (n + 1) (10 * v + (getD s i 0 - 48)))
+    pub number-on : digitByte 0 ≤ getD s i 0 → getD s i 0 ≤ digitByte 9 → n < mostDigits f
+        → tokens (drop i s) (number f n v) ≡ tokens (drop (i + 1) s) (number f (n + 1) (10 * v + (getD s i 0 - digitByte 0)))
     unfolding scan scanNumber numbered unless
     number-on l u q =
-        tokens-at s i (number f n v) h ∙ simp (between-true 48 57 (getD s i 0) l u, lt-ltb n (mostDigits f) q)
-        (ap (λ k. tokens (drop (i + 1) s) (number f k (10 * v + (getD s i 0 - 48)))) (sym (add-one n)))
+        tokens-at s i (number f n v) h ∙ simp (between-true (digitByte 0) (digitByte 9) (getD s i 0) l u, lt-ltb n (mostDigits f) q)
+        (ap (λ k. tokens (drop (i + 1) s) (number f k (10 * v + (getD s i 0 - digitByte 0)))) (sym (add-one n)))
 
   -- ── variables ─────────────────────────────────────────────────────────────────────────────────
 
@@ -140,42 +119,42 @@ module _ (s : List ℕ) (i : ℕ) (h : i < length s) where
   digit-cell zero q = absurd (omega arith)
   digit-cell (suc d) q = refl
 
-  pub access-zero : (a : Access) → getD s i 0 ≡ 48 → tokens (drop i s) (after-access a) ≡ does (variable a 10) ∷ tokens (drop (i + 1) s) idle
+  pub access-zero : (a : Access) → getD s i 0 ≡ digitByte 0 → tokens (drop i s) (after-access a) ≡ does (variable a 10) ∷ tokens (drop (i + 1) s) idle
   unfolding scan accessed
   access-zero a e = tokens-at s i (after-access a) h ∙ rw e
 
-  pub access-digit : (a : Access) → 49 ≤ getD s i 0 → getD s i 0 ≤ 57
-      → tokens (drop i s) (after-access a) ≡ does (variable a (getD s i 0 - 48)) ∷ tokens (drop (i + 1) s) idle
+  pub access-digit : (a : Access) → digitByte 1 ≤ getD s i 0 → getD s i 0 ≤ digitByte 9
+      → tokens (drop i s) (after-access a) ≡ does (variable a (getD s i 0 - digitByte 0)) ∷ tokens (drop (i + 1) s) idle
   unfolding scan accessed
   access-digit a l u =
-      tokens-at s i (after-access a) h ∙ simp (between-true 48 57 (getD s i 0) (omega arith) u)
-      (ap (λ k. does (variable a k) ∷ tokens (drop (i + 1) s) idle) (digit-cell (getD s i 0 - 48) (omega arith)))
+      tokens-at s i (after-access a) h ∙ simp (between-true (digitByte 0) (digitByte 9) (getD s i 0) (omega arith) u)
+      (ap (λ k. does (variable a k) ∷ tokens (drop (i + 1) s) idle) (digit-cell (getD s i 0 - digitByte 0) (omega arith)))
 
-  pub access-bad : (a : Access) → between 48 57 (getD s i 0) ≡ false → tokens (drop i s) (after-access a) ≡ faults StrayMark ∷ []
+  pub access-bad : (a : Access) → isDigit (getD s i 0) ≡ false → tokens (drop i s) (after-access a) ≡ faults StrayMark ∷ []
   unfolding scan accessed
   access-bad a n = tokens-at s i (after-access a) h ∙ simp n
 
   -- ── after a `'` ───────────────────────────────────────────────────────────────────────────────
 
-  pub tick-print : getD s i 0 ≡ 39 → tokens (drop i s) after-tick ≡ tokens (drop (i + 1) s) (printing [])
+  pub tick-print : getD s i 0 ≡ tickByte → tokens (drop i s) after-tick ≡ tokens (drop (i + 1) s) (printing [])
   unfolding scan ticked
   tick-print e = tokens-at s i after-tick h ∙ rw e
 
-  pub tick-slash : getD s i 0 ≡ 47 → tokens (drop i s) after-tick ≡ tokens (drop (i + 1) s) after-slash
+  pub tick-slash : getD s i 0 ≡ slashByte → tokens (drop i s) after-tick ≡ tokens (drop (i + 1) s) after-slash
   unfolding scan ticked
   tick-slash e = tokens-at s i after-tick h ∙ rw e
 
-  pub tick-bad : (getD s i 0 ≡ 39 → ⊥) → (getD s i 0 ≡ 47 → ⊥) → tokens (drop i s) after-tick ≡ faults StrayMark ∷ []
+  pub tick-bad : (getD s i 0 ≡ tickByte → ⊥) → (getD s i 0 ≡ slashByte → ⊥) → tokens (drop i s) after-tick ≡ faults StrayMark ∷ []
   unfolding scan ticked
-  tick-bad n m = tokens-at s i after-tick h ∙ simp (ne-eqb (getD s i 0) 39 n, ne-eqb (getD s i 0) 47 m)
+  tick-bad n m = tokens-at s i after-tick h ∙ simp (ne-eqb (getD s i 0) tickByte n, ne-eqb (getD s i 0) slashByte m)
 
-  pub slash-minus : getD s i 0 ≡ 45 → tokens (drop i s) after-slash ≡ tokens (drop (i + 1) s) (number (constantForm true) 0 0)
+  pub slash-minus : getD s i 0 ≡ minusByte → tokens (drop i s) after-slash ≡ tokens (drop (i + 1) s) (number (constantForm true) 0 0)
   unfolding scan slashed
   slash-minus e = tokens-at s i after-slash h ∙ rw e
 
-  pub slash-plus : (getD s i 0 ≡ 45 → ⊥) → tokens (drop i s) after-slash ≡ tokens (drop i s) (number (constantForm false) 0 0)
+  pub slash-plus : (getD s i 0 ≡ minusByte → ⊥) → tokens (drop i s) after-slash ≡ tokens (drop i s) (number (constantForm false) 0 0)
   unfolding scan slashed
-  slash-plus n = tokens-at s i after-slash h ∙ simp (ne-eqb (getD s i 0) 45 n) (sym (tokens-at s i (number (constantForm false) 0 0) h))
+  slash-plus n = tokens-at s i after-slash h ∙ simp (ne-eqb (getD s i 0) minusByte n) (sym (tokens-at s i (number (constantForm false) 0 0) h))
 
 -- ── what a number's closing byte gives ──────────────────────────────────────────────────────────
 
@@ -187,10 +166,6 @@ pub counter-some : (v : ℕ) (k : Mode → List Token) → (v ≡ 0 → ⊥) →
 unfolding numeral
 counter-some zero k n = absurd (n refl)
 counter-some (suc m) k n = (m, refl, refl)
-
--- the value of one more digit
-pub pow-on : (v d n : ℕ) → v < 10 ^ n → d < 10 → 10 * v + d < 10 ^ (n + 1)
-pow-on v d n h k = let e : 10 ^ (n + 1) ≡ 10 ^ n * 10 = ap (λ j. 10 ^ j) (add-one n) ∙ pow-suc 10 n in omega arith
 
 -- ── the bytes of a print ────────────────────────────────────────────────────────────────────────
 
@@ -255,7 +230,7 @@ tokens-first s i h c e = tokens-at s i idle h ∙ ap (λ c. first c (λ m. token
 
 -- two steps to a place inside the text
 pub inside-both : (s : List ℕ) (a b n : ℕ) → a ≤ b → (a < b → b ≤ length s) → b ≤ n → (b < n → n ≤ length s) → a < n → n ≤ length s
-inside-both s a b n h i k j l = by-ltb b n (n ≤ length s) j (λ e. let q : b ≤ length s = i (omega arith) in omega arith)
+inside-both s a b n h i k j l = by-ltb b n (λ _. n ≤ length s) j (λ e. let q : b ≤ length s = i (omega arith) in omega arith)
 
 -- what is skipped from further on, where the tokens are those from here
 pub skips-from : (t t′ : List Token) (s : List ℕ) (a b : ℕ) (r : Skipped) → t ≡ t′ → a ≤ b → (a < b → b ≤ length s) → Skips t′ s b r → Skips t s a r
@@ -264,7 +239,7 @@ skips-from t t′ s a b (S.To n) e h i q =
 skips-from t t′ s a b (S.Refused r) e h i q = e ∙ q
 
 pub skips-inside : {t : List Token} {s : List ℕ} {from n : ℕ} → from ≤ length s → SkipsTo t s from n → n ≤ length s
-skips-inside {s = s} {from = from} {n = n} h q = by-ltb from n (n ≤ length s) (q .inside) (λ e. omega arith)
+skips-inside {s = s} {from = from} {n = n} h q = by-ltb from n (λ _. n ≤ length s) (q .inside) (λ e. omega arith)
 
 -- ── the loops over blanks and comments ──────────────────────────────────────────────────────────
 

@@ -1,19 +1,20 @@
 -- The kind of a byte says the class that the definitions give it.
 use mathlib.Core.Path.{_≡_, refl, sym, _∙_, subst}
-use mathlib.Core.Bool.{Bool, true, false, cond, _&&_}
+use mathlib.Core.Bool.{Bool, true, false, cond}
 use mathlib.Core.Logic.{_⊎_, inl, inr}
 use Prim.Native.Nat.{ℕ, _<_}
 use native.Mathlib.Omega.{arith}
-use lib.Dec.{T, leb, eqb, eqb→eq}
-use borrow.Author.Tests.{leb-true, ne-eqb}
+use lib.Dec.{T, eqb, eqb→eq}
+use borrow.Author.Tests.{ne-eqb}
 use Rattle.language.specs.Syntax.{operatorByte, accessByte, conditionByte}
 use Rattle.language.specs.Letters.{letterByte}
 use Rattle.language.specs.Between.{between}
 use Rattle.language.specs.Tokens.{Class, blank, quote, opening, closing, semicolon, point, dollar, tick, stray, operating, accessing, comparing, calling, class}
 use Rattle.lexer.specs.Lexing.{Inked, Stands, classRank, byteRank, kindRanked, kindOf}
-use Rattle.language.specs.Bytes.{blankByte, newlineByte, openByte, quoteByte}
+use Rattle.language.specs.Bytes.{blankByte, digitByte, newlineByte, openByte, quoteByte}
 use Rattle.lexer.specs.declared.Kind.{Kind}
 use Rattle.lexer.specs.declared.Kind.the-variants as K
+use Rattle.language.proofs.Between.{between-bounds}
 use Rattle.lexer.proofs.LexingBytes.{either, in-range}
 
 -- the byte of a class that has one of several
@@ -66,21 +67,11 @@ stray-is dollar t = absurd t
 stray-is tick t = absurd t
 stray-is stray t = refl
 
-and-left : (a b : Bool) → (a && b) ≡ true → a ≡ true
-and-left true b e = refl
-and-left false b e = e
-
-and-right : (a b : Bool) → (a && b) ≡ true → b ≡ true
-and-right true b e = e
-and-right false true e = refl
-and-right false false e = e
-
-digit-stray : (b : ℕ) → between 49 57 b ≡ true → class b ≡ stray
+digit-stray : (b : ℕ) → between (digitByte 1) (digitByte 9) b ≡ true → class b ≡ stray
 unfolding class
 digit-stray b e =
-    let l = leb-true 49 b (and-left (leb 49 b) (leb b 57) e) in
-    let u = leb-true b 57 (and-right (leb 49 b) (leb b 57) e) in
-    stray-is (class b) (in-range (λ (b : ℕ). isStray (class b)) 49 9 tt b l (omega arith))
+    let k = between-bounds (digitByte 1) (digitByte 9) b e in
+    stray-is (class b) (in-range (λ (b : ℕ). isStray (class b)) (digitByte 1) 9 tt b (k .0) (omega arith))
 
 -- the byte's class, by its kind
 abbrev pub Sorted : Kind → ℕ → Type 0
@@ -101,12 +92,12 @@ Sorted K.Stray b = class b ≡ stray
 
 pub sorted : (b : ℕ) → b < 256 → Sorted (kindOf b) b
 unfolding kindOf byteRank
-sorted b h = go (between 49 57 b) (class b) refl refl
+sorted b h = go (between (digitByte 1) (digitByte 9) b) (class b) refl refl
   where
     own : (c : Class) → class b ≡ c → T (ownByte c b)
     own c e = subst (λ c. T (ownByte c b)) e (own-byte b h)
 
-    go : (t : Bool) (c : Class) → between 49 57 b ≡ t → class b ≡ c → Sorted (kindRanked (cond t 12 (classRank c))) b
+    go : (t : Bool) (c : Class) → between (digitByte 1) (digitByte 9) b ≡ t → class b ≡ c → Sorted (kindRanked (cond t 12 (classRank c))) b
     go true c e f = digit-stray b e
     go false blank e f = f
     go false quote e f = f

@@ -47,7 +47,7 @@ classRank stray = 13
 -- a digit other than 0 begins no mark and is 12
 unfoldable pub byteRank : ℕ → ℕ
 unfolding class
-byteRank b = cond (between 49 57 b) 12 (classRank (class b))
+byteRank b = cond (between (digitByte 1) (digitByte 9) b) 12 (classRank (class b))
 
 -- the kind at a place of that order
 abbrev pub kindRanked : ℕ → Kind

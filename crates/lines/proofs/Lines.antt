@@ -13,7 +13,7 @@ use borrow.Author.Tests.{eq-eqb, ne-eqb, le-leb, lt-leb, lt-ltb, le-ltb, ltb-tru
 use Rattle.language.specs.Decimals.{maxDigits}
 use Rattle.language.specs.Bytes.{blankByte, digitByte, isDigit, minusByte}
 use Rattle.language.specs.Grammar.{Digits, digitBytes, valueFrom}
-use Rattle.language.proofs.Between.{between-ok}
+use Rattle.language.proofs.Between.{between-true}
 use Rattle.lines.specs.Lines.{maxLine, maxInputs, defineByte, withdrawByte, runByte, define, withdraw, run, bad, provided}
 use Rattle.lines.specs.Lines.{Field, allowance, input, allowed, given, Mode, sign, number, numbered, scanNumber, signs, scan, finish, fields}
 use Rattle.lines.specs.Lines.{definition, withdrawal, execution, ordered, form, request}
@@ -53,7 +53,7 @@ digits-on [] r l f n v g h = let e : n ≡ n + 0 = omega arith in ap (λ m. fiel
 digits-on (d ∷ ds) r l f n v g h =
     let e : digitByte d - digitByte 0 ≡ d = omega arith in
     let k : suc n + length ds ≡ n + suc (length ds) = omega arith in
-    simp (between-ok (digitByte 0) (digitByte 9) (digitByte d) (omega arith) (omega (arith, g .0)), lt-ltb n maxDigits (omega arith))
+    simp (between-true (digitByte 0) (digitByte 9) (digitByte d) (omega arith) (omega (arith, g .0)), lt-ltb n maxDigits (omega arith))
     (ap (λ x. fields (digitBytes ds r) l (number f (suc n) (10 * v + x))) e
     ∙ digits-on ds r l f (suc n) (10 * v + d) (g .1) (omega arith)
     ∙ ap (λ m. fields r l (number f m (valueFrom (10 * v + d) ds))) k)

@@ -22,7 +22,7 @@ use Rattle.language.specs.Bytes.{openByte}
 use Rattle.linker.specs.Linked.{linked}
 use Rattle.assembler.specs.Exits.{linkedCells, Fillable}
 use Rattle.assembler.specs.Scanning.{parsedFrom, Scans, stops, ends}
-use Rattle.assembler.proofs.Scanning.{refusal-some}
+use Rattle.language.proofs.Answers.{refusal-not-zero}
 use Rattle.lexer.proofs.LexingSorts.{isMark, isOther, a-mark, no-opening, the-opening}
 use Rattle.lexer.proofs.Lexing.{tokens-end, tokens-first}
 
@@ -137,18 +137,18 @@ module _ (s : List ℕ) (from : ℕ) (z : Scanned) (C : List ℤ) (K L : List �
 
   pub link-unskipped-after : Scans s from z C K L → z .pass .fault ≡ 0 → (r : Refusal) → tokens (drop (z .next) s) idle ≡ faults r ∷ []
       → linked (parsedFrom s from) ≡ refusedAs (refusalNumber r)
-  link-unskipped-after (stops why p k) e r q = absurd (refusal-some why (sym k ∙ e))
+  link-unskipped-after (stops why p k) e r q = absurd (refusal-not-zero why (sym k ∙ e))
   link-unskipped-after (ends w p k x) e r q = ap linked (p ∙ after-fault _ r w q)
 
   module _ (j : ℕ) (skipped-after : tokens (drop (z .next) s) idle ≡ tokens (drop j s) idle) where
     pub link-stray-after : Scans s from z C K L → z .pass .fault ≡ 0 → j < length s → getD s j 0 < 256 → MarkAt s j
         → linked (parsedFrom s from) ≡ refusedAs (refusalNumber StrayMark)
-    link-stray-after (stops why p k) e l b m = absurd (refusal-some why (sym k ∙ e))
+    link-stray-after (stops why p k) e l b m = absurd (refusal-not-zero why (sym k ∙ e))
     link-stray-after (ends w p k r) e l b m = ap linked (p ∙ ap (λ t. parse t (whole w)) skipped-after ∙ after-stray s j l b m w)
 
     pub link-whole : Scans s from z C K L → z .pass .fault ≡ 0 → length s ≤ j → (cells : List ℤ) → cells ≡ linkedCells C K L (z .pass .used)
         → record { number = 0; table = record { used = z .pass .used; cells = cells } } ≡ linked (parsedFrom s from)
-    link-whole (stops why p k) e l cells c = absurd (refusal-some why (sym k ∙ e))
+    link-whole (stops why p k) e l cells c = absurd (refusal-not-zero why (sym k ∙ e))
     link-whole (ends w p k r) e l cells c =
         sym
         (ap linked (p ∙ ap (λ t. parse t (whole w)) skipped-after ∙ after-end s j w l)
@@ -157,5 +157,5 @@ module _ (s : List ℕ) (from : ℕ) (z : Scanned) (C : List ℤ) (K L : List �
 
   -- what the scan leaves for the second pass
   pub scanned-ready : Scans s from z C K L → z .pass .fault ≡ 0 → Fillable (z .pass .used) L
-  scanned-ready (stops why p k) e = absurd (refusal-some why (sym k ∙ e))
+  scanned-ready (stops why p k) e = absurd (refusal-not-zero why (sym k ∙ e))
   scanned-ready (ends w p k r) e = record { small = r .small; shallow = r .shallow }

@@ -31,7 +31,8 @@ bytes-more : (l : List ℕ) (d : ℕ) (r : List ℕ) → digitBytes (l ++ (d ∷
 bytes-more [] d r = refl
 bytes-more (x ∷ l) d r = ap (λ (t : List ℕ). digitByte x ∷ t) (bytes-more l d r)
 
-pow-more : (v d n : ℕ) → v < 10 ^ n → d < 10 → 10 * v + d < 10 ^ (n + 1)
+-- the value of one more digit
+pub pow-more : (v d n : ℕ) → v < 10 ^ n → d < 10 → 10 * v + d < 10 ^ (n + 1)
 pow-more v d n h k = let e : 10 ^ (n + 1) ≡ 10 ^ n * 10 = ap (λ j. 10 ^ j) (add-one n) ∙ pow-suc 10 n in omega arith
 
 -- A number of n digits has m digits at most, where m is no less.
@@ -61,10 +62,10 @@ reading-none s from most =
 
 module _ (s : List ℕ) (from most i n v : ℕ) (r : Reading s from most i n v) where
   -- one digit more
-  pub reading-more : i < length s → n < most → n < maxDigits → 48 ≤ getD s i 0 → getD s i 0 ≤ 57
-      → Reading s from most (i + 1) (n + 1) (10 * v + (getD s i 0 - 48))
+  pub reading-more : i < length s → n < most → n < maxDigits → digitByte 0 ≤ getD s i 0 → getD s i 0 ≤ digitByte 9
+      → Reading s from most (i + 1) (n + 1) (10 * v + (getD s i 0 - digitByte 0))
   reading-more h m k a b =
-      let d = getD s i 0 - 48 in
+      let d = getD s i 0 - digitByte 0 in
       let e : digitByte d ≡ getD s i 0 = omega arith in
       let j : suc i ≡ from + (n + 1) = omega (arith, r .place) in
       record {
@@ -102,11 +103,11 @@ reading-done s from most i q r f =
       whole = λ a b h. ap (λ j. isDigit (getD s j 0)) (sym (r .place)) ∙ f a b (omega (arith, r .place));
     }
 
-pub digit-low : (b : ℕ) → b < 48 → isDigit b ≡ false
-digit-low b h = simp (lt-leb 48 b h)
+pub digit-low : (b : ℕ) → b < digitByte 0 → isDigit b ≡ false
+digit-low b h = simp (lt-leb (digitByte 0) b h)
 
-pub digit-high : (b : ℕ) → 57 < b → isDigit b ≡ false
-digit-high b h = simp (le-leb 48 b (omega arith), lt-leb b 57 h)
+pub digit-high : (b : ℕ) → digitByte 9 < b → isDigit b ≡ false
+digit-high b h = simp (le-leb (digitByte 0) b (omega arith), lt-leb b (digitByte 9) h)
 
 -- ── written ─────────────────────────────────────────────────────────────────────────────────────
 

@@ -1,29 +1,17 @@
 -- Signed machine numbers: a bound on `natAbs` says that a number fits, and what it is in 32 bits and in 64.
-use mathlib.Core.Path.{_≡_, refl, sym, ap, _∙_, subst}
+use mathlib.Core.Path.{_≡_, refl, sym, ap, _∙_}
 use mathlib.Core.Bool.{Bool, true, false, cond}
 use Prim.Native.Nat.{ℕ, zero, suc, _+_, _*_, _-_, _≤_}
 use native.Mathlib.Nat.{le-refl, div-le-self, mul-le-mul}
 use native.Mathlib.Omega.{arith}
-use lib.Dec.{T, ltb, eqb}
+use lib.Dec.{ltb, eqb}
 use lib.IntN.{ℤ, pos, negsuc, negℤ, natAbs, _+ℤ_, _-ℤ_, _*ℤ_, +ℤ-idl, +ℤ-invr, -ℤ-+ℤ-cancel}
-use lib.Signed.{mag, ltZ, quotZ, natAbs-le}
+use lib.Signed.{quotZ}
 use mir.Syntax.{w32, w64}
 use mir.Val.{SFits, toZ, ofZ}
 use mir.Facts.{toZ-ofZ}
 use borrow.Author.Tests.{ltb-true, eq-eqb, ne-eqb, eqb-true, eqb-false}
-
--- a signed number's size is at most its distance from 0
-pub mag-le : (z : ℤ) → mag z ≤ natAbs z
-mag-le (pos n) = le-refl n
-mag-le (negsuc n) = omega arith
-
--- a small number fits
-pub fits32 : (z : ℤ) → natAbs z ≤ 2147483647 → SFits w32 z
-fits32 z h = let m = mag-le z in record { sfits = omega arith }
-
--- the same in 64 bits
-pub fits64 : (z : ℤ) → natAbs z ≤ 9223372036854775807 → SFits w64 z
-fits64 z h = let m = mag-le z in record { sfits = omega arith }
+use Rattle.language.proofs.Ints.{fits32, fits64, bound32, widened, widened-is, abs-opposite}
 
 -- what a local holds of a value is the value
 pub back32 : (z : ℤ) → natAbs z ≤ 2147483647 → toZ w32 (ofZ w32 z) ≡ z
@@ -65,22 +53,6 @@ abs-quot (negsuc a) (negsuc b) = div-le-self (suc a) (suc b)
 
 -- ── through 64 bits ─────────────────────────────────────────────────────────────────────────────
 
--- how far 32 bits reach
-pub bound32 : (x : ℤ) → SFits w32 x → natAbs x ≤ 2147483648
-bound32 x f = natAbs-le x (f .sfits)
-
--- 32 bits fit in 64
-pub wide : (x : ℤ) → SFits w32 x → SFits w64 x
-wide x f = fits64 x (omega (arith, bound32 x f))
-
--- a value as it was widened
-abbrev pub widened : ℤ → ℤ
-widened x = toZ w64 (ofZ w64 (toZ w32 (ofZ w32 x)))
-
--- which is the value itself
-pub widened-is : (x : ℤ) → SFits w32 x → widened x ≡ x
-widened-is x f = rw (toZ-ofZ f) (toZ-ofZ (wide x f))
-
 -- an operation on two widened values, whose result fits 64 bits
 module _ (op : ℤ → ℤ → ℤ) (x y : ℤ) (fx : SFits w32 x) (fy : SFits w32 y) (fit : SFits w64 (op x y)) where
   -- it fits
@@ -90,20 +62,6 @@ module _ (op : ℤ → ℤ → ℤ) (x y : ℤ) (fx : SFits w32 x) (fy : SFits w
   -- and its local holds it
   pub wide-back : toZ w64 (ofZ w64 (op (widened x) (widened y))) ≡ op x y
   wide-back = rw (widened-is x fx, widened-is y fy) (toZ-ofZ fit)
-
--- results on 32 bits fit in 64
-pub abs-opposite : (x : ℤ) → natAbs (negℤ x) ≡ natAbs x
-abs-opposite (pos zero) = refl
-abs-opposite (pos (suc n)) = refl
-abs-opposite (negsuc n) = refl
-
--- 0 less a number is the number negated
-pub less : (x : ℤ) → pos 0 -ℤ x ≡ negℤ x
-less x = +ℤ-idl (negℤ x)
-
--- a negation
-pub opposite-fits : (x : ℤ) → SFits w32 x → SFits w64 (pos 0 -ℤ x)
-opposite-fits x f = rw less (fits64 (negℤ x) (omega (arith, bound32 x f, abs-opposite x)))
 
 -- a sum
 pub sum-fits : (x y : ℤ) → SFits w32 x → SFits w32 y → SFits w64 (x +ℤ y)
@@ -123,17 +81,7 @@ product-fits x y fx fy =
 pub quotient-fits : (x y : ℤ) → SFits w32 x → SFits w64 (quotZ x y)
 quotient-fits x y fx = fits64 (quotZ x y) (omega (arith, bound32 x fx, abs-quot x y))
 
--- ── signs ───────────────────────────────────────────────────────────────────────────────────────
-
--- a negative number is minus its distance, and any other is its distance
-pub below-zero : (x : ℤ) → ltZ x (pos 0) ≡ true → pos 0 -ℤ x ≡ pos (natAbs x)
-below-zero (pos n) e = let h = ltb-true n 0 e in absurd (omega arith)
-below-zero (negsuc n) e = +ℤ-idl (pos (suc n))
-
--- a number that is not negative is its distance
-pub not-below : (x : ℤ) → ltZ x (pos 0) ≡ false → x ≡ pos (natAbs x)
-not-below (pos n) e = refl
-not-below (negsuc n) e = absurd (subst T e tt)
+-- ── equality ───────────────────────────────────────────────────────────────────────────────────────
 
 -- equality, and the difference 0
 pub abs-zero : (x : ℤ) → natAbs x ≡ 0 → x ≡ pos 0

@@ -1,6 +1,6 @@
 -- What the tests on a cell, a signed number, say of the definitions that go by its condition; and the bytes of a print.
-use mathlib.Core.Path.{_≡_, refl, sym, ap, _∙_, subst}
-use mathlib.Core.Bool.{Bool, true, false, cond}
+use mathlib.Core.Path.{_≡_, refl, sym, ap, _∙_}
+use mathlib.Core.Bool.{Bool, true, false, cond, false≢true}
 use mathlib.Core.List.{List}
 use Prim.Native.Nat.{ℕ, zero, suc, _+_, _-_, _<_, _≤_}
 use native.Mathlib.Omega.{arith}
@@ -13,20 +13,10 @@ use mir.Val.{SFits, Fits}
 use borrow.Author.Tests.{lt-ltb, le-ltb, ltb-true, ltb-false, le-leb, lt-leb, eq-eqb, ne-eqb}
 use Rattle.language.specs.Syntax.{constantCode}
 use Rattle.operands.specs.Operands.{transferByte, targetOf, boundedOf, negatedOf, byteOf, printOf, printsFrom, printable}
+use Rattle.language.proofs.Tests.{by-ltb}
 
 wrong : {X : Type 0} → true ≡ false → X
-wrong e = absurd (subst T e tt)
-
-wrong′ : {X : Type 0} → false ≡ true → X
-wrong′ e = absurd (subst T (sym e) tt)
-
--- by cases on a test, with the fact that it tells
-pub by-ltb : (a b : ℕ) (P : Bool → Type 0) → (a < b → P true) → (b ≤ a → P false) → P (ltb a b)
-by-ltb a b P h k = go (ltb a b) refl
-  where
-    go : (u : Bool) → ltb a b ≡ u → P u
-    go true e = h (ltb-true a b e)
-    go false e = k (ltb-false a b e)
+wrong e = absurd (false≢true (sym e))
 
 -- x as an unsigned number
 pub unsigned : (x : ℤ) (k : ℕ) → SFits w32 x → ltZ x (pos k) ≡ false → T (nonNeg x) × Fits w64 (natAbs x)
@@ -80,7 +70,7 @@ bounded-in m d (negsuc n) h e = wrong e
 pub negated-high : (m : ℕ) (x : ℤ) → ltZ (pos 0) x ≡ true → 0 ≡ negatedOf m x
 unfolding negatedOf
 negated-high m (pos n) e = refl
-negated-high m (negsuc n) e = wrong′ e
+negated-high m (negsuc n) e = absurd (false≢true e)
 
 -- a number below the lowest
 pub negated-low : (m : ℕ) (x : ℤ) → ltZ x (negℤ (pos m)) ≡ true → 0 ≡ negatedOf m x
@@ -113,9 +103,9 @@ bounded-le m d (negsuc n) h = omega arith
 -- a cell above 0 is a transfer
 pub byte-high : (x : ℤ) → ltZ (pos 0) x ≡ true → transferByte ≡ byteOf x
 unfolding byteOf
-byte-high (pos zero) e = wrong′ e
+byte-high (pos zero) e = absurd (false≢true e)
 byte-high (pos (suc n)) e = refl
-byte-high (negsuc n) e = wrong′ e
+byte-high (negsuc n) e = absurd (false≢true e)
 
 -- any other holds a mark's byte negated, or none
 pub byte-negated : (x : ℤ) → ltZ (pos 0) x ≡ false → negatedOf constantCode x ≡ byteOf x

@@ -9,8 +9,10 @@ use lib.IntN.{ℤ, pos, negsuc, natAbs}
 use lib.ListN.{getD}
 use borrow.Author.Tests.{lt-ltb, le-ltb, le-leb, lt-leb, eq-eqb, ne-eqb}
 use Rattle.language.specs.declared.Table.{Table}
-use Rattle.language.specs.Syntax.{constantCode, Access, variable, constant, print, Condition, condition, counter}
-use Rattle.language.specs.Limits.{maxCells, maxCounters, maxLimit}
+use Rattle.language.specs.Syntax.{constantCode, printCode, counterCode, Access, variable, constant, print, Condition, condition, counter}
+use Rattle.language.specs.Syntax.{operatorByte, absolute, discard, negate, copy, write, newline, input, add, subtract, multiply, divide}
+use Rattle.language.specs.Syntax.{accessByte, fetch, save, conditionByte, negative, null, equal}
+use Rattle.language.specs.Limits.{maxCells, maxCounters, maxLimit, maxVariables}
 use Rattle.language.specs.Letters.{firstLetter, lastLetter, isLetter, letterIndex}
 use Rattle.language.specs.Between.{between}
 use Rattle.language.specs.Tokens.{printByte}
@@ -21,7 +23,9 @@ use Rattle.language.specs.Machine.{cell, sound, natural, minus, exitAt, bytesAt
 use Rattle.language.specs.Tables.{tableFrom}
 use Rattle.operands.specs.Operands.{transferByte, endByte, byteOf, byteAt, targetOf, exitOf, boundedOf, negatedOf, digitOf, digitAt, orderOf, limitOf, extentOf}
 use Rattle.operands.specs.Operands.{printOf, printsFrom, printable, counterAt, printAt}
-use Rattle.operands.proofs.Operands.{by-ltb, byte-mark, byte-transfer}
+use Rattle.language.proofs.LayoutPositions.{forward-add}
+use Rattle.language.proofs.Tests.{by-ltb}
+use Rattle.operands.proofs.Operands.{byte-mark, byte-transfer}
 use Rattle.operands.proofs.Tables.{cell-at}
 
 -- a number within 2 to u
@@ -208,32 +212,34 @@ exact-no (negsuc m) n f h = refl
 
 -- a byte that no mark has
 pub none-kind : (b : ℕ) → isLetter b ≡ false
-    → (b ≡ 175 → ⊥) → (b ≡ 167 → ⊥) → (b ≡ 36 → ⊥) → (b ≡ 65 → ⊥) → (b ≡ 76 → ⊥) → (b ≡ 77 → ⊥) → (b ≡ 80 → ⊥) → (b ≡ 79 → ⊥) → (b ≡ 88 → ⊥)
-    → (b ≡ 73 → ⊥) → (b ≡ 43 → ⊥) → (b ≡ 45 → ⊥) → (b ≡ 42 → ⊥) → (b ≡ 47 → ⊥) → (b ≡ 70 → ⊥) → (b ≡ 83 → ⊥) → (b ≡ 78 → ⊥) → (b ≡ 48 → ⊥)
-    → (b ≡ 74 → ⊥) → kind b ≡ isNone
+    → (b ≡ constantCode → ⊥) → (b ≡ printCode → ⊥) → (b ≡ counterCode → ⊥) → (b ≡ operatorByte absolute → ⊥)
+    → (b ≡ operatorByte discard → ⊥) → (b ≡ operatorByte negate → ⊥) → (b ≡ operatorByte copy → ⊥) → (b ≡ operatorByte write → ⊥)
+    → (b ≡ operatorByte newline → ⊥) → (b ≡ operatorByte input → ⊥) → (b ≡ operatorByte add → ⊥) → (b ≡ operatorByte subtract → ⊥)
+    → (b ≡ operatorByte multiply → ⊥) → (b ≡ operatorByte divide → ⊥) → (b ≡ accessByte fetch → ⊥) → (b ≡ accessByte save → ⊥)
+    → (b ≡ conditionByte negative → ⊥) → (b ≡ conditionByte null → ⊥) → (b ≡ conditionByte equal → ⊥) → kind b ≡ isNone
 unfolding kind
-none-kind b l n175 n167 n36 n65 n76 n77 n80 n79 n88 n73 n43 n45 n42 n47 n70 n83 n78 n48 n74 =
+none-kind b l n1 n2 n3 n4 n5 n6 n7 n8 n9 n10 n11 n12 n13 n14 n15 n16 n17 n18 n19 =
     rw (
       l,
-      ne-eqb 175 b (λ e. n175 (sym e)),
-      ne-eqb 167 b (λ e. n167 (sym e)),
-      ne-eqb 36 b (λ e. n36 (sym e)),
-      ne-eqb 65 b (λ e. n65 (sym e)),
-      ne-eqb 76 b (λ e. n76 (sym e)),
-      ne-eqb 77 b (λ e. n77 (sym e)),
-      ne-eqb 80 b (λ e. n80 (sym e)),
-      ne-eqb 79 b (λ e. n79 (sym e)),
-      ne-eqb 88 b (λ e. n88 (sym e)),
-      ne-eqb 73 b (λ e. n73 (sym e)),
-      ne-eqb 43 b (λ e. n43 (sym e)),
-      ne-eqb 45 b (λ e. n45 (sym e)),
-      ne-eqb 42 b (λ e. n42 (sym e)),
-      ne-eqb 47 b (λ e. n47 (sym e)),
-      ne-eqb 70 b (λ e. n70 (sym e)),
-      ne-eqb 83 b (λ e. n83 (sym e)),
-      ne-eqb 78 b (λ e. n78 (sym e)),
-      ne-eqb 48 b (λ e. n48 (sym e)),
-      ne-eqb 74 b (λ e. n74 (sym e)),
+      ne-eqb constantCode b (λ e. n1 (sym e)),
+      ne-eqb printCode b (λ e. n2 (sym e)),
+      ne-eqb counterCode b (λ e. n3 (sym e)),
+      ne-eqb (operatorByte absolute) b (λ e. n4 (sym e)),
+      ne-eqb (operatorByte discard) b (λ e. n5 (sym e)),
+      ne-eqb (operatorByte negate) b (λ e. n6 (sym e)),
+      ne-eqb (operatorByte copy) b (λ e. n7 (sym e)),
+      ne-eqb (operatorByte write) b (λ e. n8 (sym e)),
+      ne-eqb (operatorByte newline) b (λ e. n9 (sym e)),
+      ne-eqb (operatorByte input) b (λ e. n10 (sym e)),
+      ne-eqb (operatorByte add) b (λ e. n11 (sym e)),
+      ne-eqb (operatorByte subtract) b (λ e. n12 (sym e)),
+      ne-eqb (operatorByte multiply) b (λ e. n13 (sym e)),
+      ne-eqb (operatorByte divide) b (λ e. n14 (sym e)),
+      ne-eqb (accessByte fetch) b (λ e. n15 (sym e)),
+      ne-eqb (accessByte save) b (λ e. n16 (sym e)),
+      ne-eqb (conditionByte negative) b (λ e. n17 (sym e)),
+      ne-eqb (conditionByte null) b (λ e. n18 (sym e)),
+      ne-eqb (conditionByte equal) b (λ e. n19 (sym e)),
     )
 
 high-kind : (b : ℕ) → constantCode < b → kind b ≡ isNone
@@ -261,14 +267,14 @@ pub call-kind : (b : ℕ) → firstLetter ≤ b → b ≤ lastLetter → kind b 
 unfolding kind
 call-kind b h k = rw (le-leb firstLetter b h, le-leb b lastLetter k)
 
-digit-read : (z : ℤ) (k : ℕ → Decoded) → natural z (λ d. sound (between 1 10 d) (k d)) ≡ cond (eqb (digitOf z) 0) damaged (k (digitOf z))
+digit-read : (z : ℤ) (k : ℕ → Decoded) → natural z (λ d. sound (between 1 maxVariables d) (k d)) ≡ cond (eqb (digitOf z) 0) damaged (k (digitOf z))
 unfolding natural sound boundedOf
 digit-read (negsuc n) k = refl
 digit-read (pos n) k =
-    by-ltb 10 n (λ t. sound (between 1 10 n) (k n) ≡ cond (eqb (cond t 0 n) 0) damaged (k (cond t 0 n)))
-    (λ h. rw (le-leb 1 n (omega arith), lt-leb n 10 h))
-    (λ h. by-ltb 0 n (λ t. sound (leb 1 n && leb n 10) (k n) ≡ cond (eqb n 0) damaged (k n))
-    (λ g. rw (le-leb 1 n g, le-leb n 10 h, ne-eqb n 0 (λ e. omega arith)))
+    by-ltb maxVariables n (λ t. sound (between 1 maxVariables n) (k n) ≡ cond (eqb (cond t 0 n) 0) damaged (k (cond t 0 n)))
+    (λ h. rw (le-leb 1 n (omega arith), lt-leb n maxVariables h))
+    (λ h. by-ltb 0 n (λ t. sound (leb 1 n && leb n maxVariables) (k n) ≡ cond (eqb n 0) damaged (k n))
+    (λ g. rw (le-leb 1 n g, le-leb n maxVariables h, ne-eqb n 0 (λ e. omega arith)))
     (λ g. rw (lt-leb 1 n (omega arith), eq-eqb n 0 (omega arith))))
 
 -- `F` or `S`, of its digit
@@ -315,10 +321,6 @@ bytes-read c base end (suc n) q i k e h l =
     ∙ ap (λ (x : Decoded). cond (eqb (printOf z) 0) damaged x)
     (bytes-read c base end n (suc q) (suc i) (λ l. k (printOf z ∷ l)) (omega arith) (omega arith) (omega arith))
     ∙ both (eqb (printOf z) 0) (printable c (suc i) n) (k (printOf z ∷ printsFrom c (suc i) n)))
-
-forward-add : (n q : ℕ) → forward n q ≡ q + n
-forward-add zero q = omega arith
-forward-add (suc n) q = forward-add n (suc q) ∙ omega arith
 
 module _ (c : List ℤ) (base end q i : ℕ) (place : i ≡ base + q + 1) (few : end ≤ maxCells) where
   abbrev t : Table

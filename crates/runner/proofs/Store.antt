@@ -1,11 +1,11 @@
 -- The branches of a run of any store: each refusal in its order, or what the interpreter reports.
-use mathlib.Core.Path.{_≡_, refl, sym, ap, _∙_, subst}
+use mathlib.Core.Path.{_≡_, refl, sym, ap, _∙_}
 use Prim.Native.Nat.{ℕ, zero, suc, _≤_}
 use native.Mathlib.Omega.{arith}
 use mathlib.Core.Bool.{Bool, true, false, cond, not, _&&_}
 use mathlib.Core.Option.{some}
 use mathlib.Core.List.{List, [], _∷_}
-use lib.Dec.{T, leb, eqb}
+use lib.Dec.{leb, eqb}
 use lib.IntN.{ℤ}
 use lib.ListN.{length, getD}
 use borrow.Author.Tests.{eq-eqb, ne-eqb, eqb-true, leb-true, not-true, not-false}
@@ -22,6 +22,7 @@ use Rattle.book.specs.Calls.{Run, runs}
 use Rattle.book.specs.Replies.{leaves, plain, replied, reported, tells}
 use Rattle.book.specs.Refusals.{refusal}
 use Rattle.book.specs.Store.{Store, storeOf, soundStore, withVariables, storeRan, storeAccepts, storeCall, answered}
+use Rattle.language.proofs.Tests.{first-true, second-true}
 use Rattle.book.proofs.Refusals.{store-refused, letter-refused, standing-refused, input-refused, list-refused, run-free}
 use Rattle.book.proofs.Store.{sound-by, call-refused, call-accepted}
 
@@ -75,23 +76,19 @@ module _ (st : Store) (x : Run) (r : Report) (s : Bool) (tested : s ≡ soundUse
 -- ── used-cell counts ────────────────────────────────────────────────────────────────────────────
 
 -- no used-cell count of a sound store is over 250
-both-true : (a b : Bool) → a && b ≡ true → (a ≡ true) × (b ≡ true)
-both-true true b e = (refl, e)
-both-true false b e = absurd (subst T (sym e) tt)
-
 count-most : (n : ℕ) → soundCount n ≡ true → n ≤ maxCells
 unfolding soundCount
 count-most n e = go (eqb n 0) refl e
   where
     go : (u : Bool) → eqb n 0 ≡ u → cond u true (leb 3 n && leb n maxCells) ≡ true → n ≤ maxCells
     go true q e = omega (arith, eqb-true n 0 q)
-    go false q e = leb-true n maxCells (both-true (leb 3 n) (leb n maxCells) e .1)
+    go false q e = leb-true n maxCells (second-true (leb 3 n) (leb n maxCells) e)
 
 most : (u : List ℕ) → soundUsed u ≡ true → (a : ℕ) → getD u a 0 ≤ maxCells
 unfolding soundUsed
 most [] e a = omega arith
-most (n ∷ u) e zero = count-most n (both-true (soundCount n) (soundUsed u) e .0)
-most (n ∷ u) e (suc a) = most u (both-true (soundCount n) (soundUsed u) e .1) a
+most (n ∷ u) e zero = count-most n (first-true (soundCount n) (soundUsed u) e)
+most (n ∷ u) e (suc a) = most u (second-true (soundCount n) (soundUsed u) e) a
 
 pub sound-most : (u : List ℕ) (v : List ℤ) (s : Bool) → s ≡ soundUsed u && lawful v → not s ≡ false → (a : ℕ) → getD u a 0 ≤ maxCells
-sound-most u v s e h = most u (both-true (soundUsed u) (lawful v) (sym e ∙ not-false s h) .0)
+sound-most u v s e h = most u (first-true (soundUsed u) (lawful v) (sym e ∙ not-false s h))

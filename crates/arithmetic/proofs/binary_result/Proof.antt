@@ -7,7 +7,8 @@ use mir.Facts.{toZ-ofZ}
 use borrow.Author.Tests.{eqb-false}
 use borrow.Author.Needs.{needs}
 use Rattle.arithmetic.specs.Results.{valueOf}
-use Rattle.operands.proofs.Ints.{wide, wide-fits, wide-back, sum-fits, difference-fits, product-fits, quotient-fits, wide-nonzero}
+use Rattle.language.proofs.Ints.{wide}
+use Rattle.operands.proofs.Ints.{wide-fits, wide-back, sum-fits, difference-fits, product-fits, quotient-fits, wide-nonzero}
 use Rattle.arithmetic.proofs.binary_result.Statement.{statement}
 use Rattle.arithmetic.proofs.binary_result.Tie as tie
 

@@ -8,7 +8,7 @@ use mir.Val.{toZ, ofZ}
 use mir.Facts.{toZ-ofZ}
 use Rattle.language.specs.Limits.{maxValue}
 use Rattle.language.proofs.Values.{value-below, value-above, value-inside, inside}
-use Rattle.operands.proofs.Ints.{fits32}
+use Rattle.language.proofs.Ints.{fits32}
 use Rattle.arithmetic.proofs.ranged.Statement.{statement}
 use Rattle.arithmetic.proofs.ranged.Tie as tie
 

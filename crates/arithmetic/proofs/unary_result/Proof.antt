@@ -6,7 +6,8 @@ use mir.Val.{SFits, toZ, ofZ}
 use mir.Facts.{toZ-ofZ}
 use borrow.Author.Needs.{needs}
 use Rattle.arithmetic.specs.Results.{valueOf}
-use Rattle.operands.proofs.Ints.{widened, wide, widened-is, wide-fits, wide-back, opposite-fits, below-zero, not-below, less}
+use Rattle.language.proofs.Ints.{widened, wide, widened-is, opposite-fits, below-zero, not-below, less}
+use Rattle.operands.proofs.Ints.{wide-fits, wide-back}
 use Rattle.arithmetic.proofs.unary_result.Statement.{statement}
 use Rattle.arithmetic.proofs.unary_result.Tie as tie
 

@@ -1,6 +1,7 @@
 -- `digits` meets its contract: in every form with its limits, the tokens from place i on, after n digits of the value v, are those from the start.
-use Rattle.lexer.proofs.Lexing.{number-closed, number-none, number-low, number-high, number-many, number-on, tokens-end, pow-on}
-use Rattle.numerals.proofs.Numerals.{pow-up}
+use Rattle.language.specs.Bytes.{digitByte}
+use Rattle.lexer.proofs.Lexing.{number-closed, number-none, number-low, number-high, number-many, number-on, tokens-end}
+use Rattle.numerals.proofs.Numerals.{pow-up, pow-more}
 use Rattle.language.specs.Tokens.{faults, Form, mostDigits, closingByte, formFault, number, tokens, finish}
 use lib.ListN.{length, getD, drop}
 use native.Mathlib.Omega.{arith}
@@ -81,12 +82,12 @@ loop-again c =
     let l = c .before .before .before .before .before .before .loop in
     let s = c .before .before .before .before .before .before .before .before .args .text .now in
     let b = getD s (l .i) 0 in
-    let w : c .wide .result ≡ b - 48 = c .wide .ensures in
+    let w : c .wide .result ≡ b - digitByte 0 = c .wide .ensures in
     record {
       after = omega arith;
       inside = omega arith;
       few = omega arith;
-      below = rw w (pow-on (l .v) (b - 48) (l .n) (l .inv .below) (omega arith));
+      below = rw w (pow-more (l .v) (b - digitByte 0) (l .n) (l .inv .below) (omega arith));
       same = λ f m e r. rw w (sym (number-on s (l .i) (omega arith) f (l .n) (l .v) (c .before .before .before .if1 .left) (c .before .before .if4 .left) (omega arith)) ∙ l .inv .same f m e r);
     }
 

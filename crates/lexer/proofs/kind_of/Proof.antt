@@ -6,6 +6,8 @@ use Prim.Native.Nat.{ℕ, _+_, _≤_, _<_}
 use lib.Dec.{T, eqb, eqb→eq}
 use mir.Val.{hasKey}
 use types.Run.{OneOf}
+use Rattle.language.specs.Limits.{maxLetters}
+use Rattle.language.specs.Letters.{firstLetter}
 use Rattle.lexer.specs.Lexing.{byteRank, kindRanked, kindOf}
 use Rattle.lexer.proofs.LexingBytes.{either, everyFrom, everyOf, in-range, of-keys, but-keys}
 use native.Mathlib.Omega.{arith}
@@ -113,7 +115,7 @@ returns-11 c = in-gap (c .before .before .before) 12 44 14 tt (omega arith) (ome
 
 returns-12 : tie.Need-returns-12
 unfolding byteRank
-returns-12 c = in-gap (c .before .before .before .before .before .before .before) 9 97 26 tt (omega arith) (omega arith)
+returns-12 c = in-gap (c .before .before .before .before .before .before .before) 9 firstLetter maxLetters tt (omega arith) (omega arith)
 
 returns-13 : tie.Need-returns-13
 unfolding byteRank

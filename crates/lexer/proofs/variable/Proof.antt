@@ -1,5 +1,7 @@
 -- `variable` meets its contract.
-use Rattle.lexer.proofs.Lexing.{tokens-end, access-zero, access-digit, access-bad, between-low, between-high, answered, faulted}
+use Rattle.language.specs.Bytes.{digitByte}
+use Rattle.language.proofs.Between.{between-low, between-high}
+use Rattle.lexer.proofs.Lexing.{tokens-end, access-zero, access-digit, access-bad, answered, faulted}
 use Rattle.language.specs.Tokens.{begins, after-access, finish}
 use lib.ListN.{getD}
 use native.Mathlib.Omega.{arith}
@@ -34,7 +36,7 @@ returns-4 c =
     let b = getD (m .before .before .args .text .now) (m .before .before .args .at) 0 in
     λ a e. faulted _ _ (c .fault2 .ensures)
     (ap (λ t. begins ∷ t) (access-bad (m .before .before .args .text .now) (m .before .before .args .at) (m .if1 .left) a
-    (⊎-elim (λ w. between-low 48 57 b (omega (arith, c .before .before .match .rest .1))) (λ w. between-high 48 57 b (omega arith)) (c .before .if2 .came))))
+    (⊎-elim (λ w. between-low (digitByte 0) (digitByte 9) b (omega (arith, c .before .before .match .rest .1))) (λ w. between-high (digitByte 0) (digitByte 9) b (omega arith)) (c .before .if2 .came))))
     (omega arith) (omega arith)
 
 pub variable-spec : {M : Type 1} → statement M

@@ -4,6 +4,7 @@ use lib.ListN.{length}
 use lib.Seq.{paste}
 use mathlib.Core.Path.{ap, _∙_}
 use borrow.Author.Needs.{needs}
+use Rattle.language.specs.Limits.{maxCells}
 use Rattle.linker.proofs.rec_link.Statement.{statement}
 use Rattle.linker.proofs.rec_link.Tie as tie
 
@@ -13,7 +14,7 @@ returns c =
       ap (λ l. l .number) (c .before .before .before .before .before .before .before .link .ensures),
       c .before .copy-cells .ensures
           ∙ ap (λ n. paste (s .cells .now) 0 (c .before .before .before .before .before .before .before .link .result .table .cells) n) (c .before .before .before .before .at-most .ensures)
-          ∙ ap (λ l. paste (s .cells .now) 0 (l .table .cells) (min 250 (length (s .cells .now)))) (c .before .before .before .before .before .before .before .link .ensures),
+          ∙ ap (λ l. paste (s .cells .now) 0 (l .table .cells) (min maxCells (length (s .cells .now)))) (c .before .before .before .before .before .before .before .link .ensures),
     )
 
 pub rec-link-spec : {M : Type 1} → statement M

@@ -2,15 +2,17 @@
 use mathlib.Core.Path.{ap}
 use native.Mathlib.Omega.{arith}
 use lib.IntN.{natAbs}
-use Rattle.numerals.proofs.Ints.{bound32, wide, opposite-fits, distance-below, distance-above}
+use mir.Facts.{toZ-ofZ}
+use Rattle.language.proofs.Ints.{bound32, wide, widened-is, opposite-fits}
+use Rattle.numerals.proofs.Ints.{distance-below, distance-above}
 use Rattle.numerals.proofs.distance.Statement.{statement}
 use Rattle.numerals.proofs.distance.Tie as tie
 
 cast-w : tie.Need-cast-w
-cast-w c = wide (c .args .v) (c .fits .v)
+cast-w c = rw (toZ-ofZ (c .fits .v)) (wide (c .args .v) (c .fits .v))
 
 sub-result : tie.Need-sub-result
-sub-result c = opposite-fits (c .before .args .v) (c .before .fits .v)
+sub-result c = let s = c .before in rw (widened-is (s .args .v) (s .fits .v)) (opposite-fits (s .args .v) (s .fits .v))
 
 cast-result : tie.Need-cast-result
 cast-result c =

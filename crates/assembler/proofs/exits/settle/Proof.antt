@@ -1,4 +1,6 @@
 -- `settle` meets its contract.
+use Rattle.language.specs.Bytes.{colonByte}
+use Rattle.emitter.specs.Drafts.{exitOpen, endOpen, closeOpen, fixupByte}
 use Rattle.assembler.specs.Exits.{settled}
 use borrow.Author.Tests.{ne-eqb}
 use lib.IntN.{pos}
@@ -48,7 +50,7 @@ unfolding settled
 returns-5 c =
     let k = c .before .args .kind in
     let r = c .match .rest in
-    simp (ne-eqb k 63 (r .0 .0 .0 .1), ne-eqb k 59 (r .0 .0 .1), ne-eqb k 41 (r .0 .1), ne-eqb k 58 (r .1))
+    simp (ne-eqb k (fixupByte exitOpen) (r .0 .0 .0 .1), ne-eqb k (fixupByte endOpen) (r .0 .0 .1), ne-eqb k (fixupByte closeOpen) (r .0 .1), ne-eqb k colonByte (r .1))
 
 pub settle-spec : {M : Type 1} → statement M
 settle-spec =

@@ -1,5 +1,6 @@
 -- `take` meets its contract: each token's function does what the definition says of it.
-use Rattle.emitter.proofs.Drafts.{refused-draft, small}
+use Rattle.numerals.proofs.Ints.{small}
+use Rattle.emitter.proofs.Drafts.{refused-draft}
 use Rattle.emitter.specs.Drafts.{Draft, draft}
 use Rattle.assembler.specs.Taking.{taken, Fine}
 use Rattle.lexer.specs.declared.Token.{Token}

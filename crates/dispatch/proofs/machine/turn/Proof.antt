@@ -1,12 +1,12 @@
 -- `dispatch::machine::turn` meets its contract. Each arm's instruction is the turn at its mark's byte; any other byte decodes to damage.
 use mathlib.Core.Path.{_≡_, refl, sym, ap, _∙_, subst}
-use mathlib.Core.Bool.{Bool, true, false, not, _&&_}
+use mathlib.Core.Bool.{Bool, true, false, not, _&&_, false≢true}
 use mathlib.Core.Logic.{_⊎_, inl, inr, ⊎-elim}
 use Prim.Native.Nat.{ℕ, zero, suc, _*_, _≤_, _<_}
 use native.Mathlib.Omega.{arith}
 use native.Mathlib.Numerals.{add-one}
 use lib.ListN.{getD}
-use lib.Dec.{T, eqb}
+use lib.Dec.{eqb}
 use denote.Ref.{now}
 use borrow.Author.Tests.{le-leb, lt-leb, ne-eqb}
 use borrow.Author.Needs.{needs}
@@ -49,16 +49,13 @@ due b = not (eqb b endByte)
 abbrev marks : ℕ → Bool
 marks b = not (eqb b endByte) && not (eqb b transferByte)
 
-wrong : {X : Type 0} → false ≡ true → X
-wrong e = absurd (subst T (sym e) tt)
-
 -- a mark is due, or a transfer
 module _ (c : tie.After-byte-at) where
   abbrev s : tie.Start
   s = c .before .before .before
 
   inside : (b : ℕ) → due b ≡ true → c .byte-at .result ≡ b → Inside (base s) (end s) (s .args .m .at)
-  inside zero z e = wrong z
+  inside zero z e = absurd (false≢true z)
   inside (suc n) z e =
       let k = byte-inside (tab s) (s .args .m .at) n (sym (c .byte-at .ensures) ∙ e) in
       record { cells = omega (arith, s .pre .letter); used = s .pre .counted (s .args .m .letter); first = k .0 .0; early = k .0 .1 }
@@ -76,11 +73,11 @@ module _ (c : tie.After-byte-at) where
 
   -- a turn goes by the mark's byte
   mark-due : (b : ℕ) (k : Kind) → marks b ≡ true → kind b ≡ k → c .byte-at .result ≡ b → markAt (now (s .args .cells)) (base s) (end s) k (H s) ≡ turnOf (H s)
-  mark-due zero k z e b = wrong z
+  mark-due zero k z e b = absurd (false≢true z)
   mark-due (suc n) k z e b =
       let q = s .args .m .at in
       ap (λ (x : Decoded). decodedAs x (H s))
-      (ap (λ (x : Kind). mark (tab s) q x) (sym e) ∙ sym (mark-decoded (tab s) q n (λ w. wrong (subst (λ (x : ℕ). marks x ≡ true) w z)) (sym (c .byte-at .ensures) ∙ b)))
+      (ap (λ (x : Kind). mark (tab s) q x) (sym e) ∙ sym (mark-decoded (tab s) q n (λ w. false≢true (subst (λ (x : ℕ). marks x ≡ true) w z)) (sym (c .byte-at .ensures) ∙ b)))
 
   operator-due : (b : ℕ) (o : Operator) → marks b ≡ true → kind b ≡ isOperator o → c .byte-at .result ≡ b → operatorTurn o (H s) ≡ turnOf (H s)
   unfolding mark

@@ -10,14 +10,15 @@ use mir.Val.{toZ, ofZ}
 use denote.Ref.{now}
 use borrow.Author.Needs.{needs}
 use borrow.Author.Count.{below-more}
+use Rattle.language.specs.Limits.{maxHeight}
 use Rattle.interpreter.proofs.cycle.copy_out.Statement.{statement}
 use Rattle.interpreter.proofs.cycle.copy_out.Tie as tie
 
 abbrev Inv-loop : tie.InvT-loop
-Inv-loop list₀ slots i₀ list i = (i ≤ 64) × (length list ≡ 64) × ((k : ℕ) → k < i → getD list k (pos 0) ≡ getD slots k (pos 0))
+Inv-loop list₀ slots i₀ list i = (i ≤ maxHeight) × (length list ≡ maxHeight) × ((k : ℕ) → k < i → getD list k (pos 0) ≡ getD slots k (pos 0))
 
 abbrev μ-loop : tie.MeasureT-loop
-μ-loop list₀ slots i₀ list i = 64 - i
+μ-loop list₀ slots i₀ list i = maxHeight - i
 
 loop-holds : tie.Need-loop-holds Inv-loop μ-loop
 loop-holds c = (omega arith, c .pre .places, λ k h. absurd (omega arith))

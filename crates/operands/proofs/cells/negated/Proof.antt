@@ -3,13 +3,13 @@ use mathlib.Core.Path.{_≡_, ap, _∙_}
 use Prim.Native.Nat.{ℕ, zero, suc, _<_, _≤_}
 use native.Mathlib.Omega.{arith}
 use lib.Dec.{T}
-use lib.IntN.{ℤ, pos, negℤ, natAbs, _-ℤ_, +ℤ-idl}
+use lib.IntN.{ℤ, pos, negℤ, natAbs, _-ℤ_}
 use lib.Signed.{nonNeg}
 use mir.Syntax.{w32}
 use mir.Val.{SFits, toZ, ofZ}
 use mir.Facts.{toZ-ofZ}
 use Rattle.operands.specs.Operands.{negatedOf}
-use Rattle.operands.proofs.Ints.{mag-le}
+use Rattle.language.proofs.Ints.{mag-le, less}
 use Rattle.operands.proofs.Operands.{negated-high, negated-low, negated-in}
 use Rattle.operands.proofs.cells.negated.Statement.{statement}
 use Rattle.operands.proofs.cells.negated.Tie as tie
@@ -27,7 +27,7 @@ module _ (s : tie.Start) where
 
   -- the lowest number as it is computed
   lowest : pos 0 -ℤ toZ w32 (s .args .most) ≡ negℤ (pos (s .args .most))
-  lowest = ap (λ z. pos 0 -ℤ z) (toZ-ofZ most-fits) ∙ +ℤ-idl (negℤ (pos (s .args .most)))
+  lowest = ap (λ z. pos 0 -ℤ z) (toZ-ofZ most-fits) ∙ less (pos (s .args .most))
 
   low-fits : SFits w32 (pos 0 -ℤ toZ w32 (s .args .most))
   low-fits = let h = s .fits .most in rw lowest (lowest-fits (s .args .most) (omega arith))

@@ -1,5 +1,6 @@
 -- `counter` meets its contract.
-use Rattle.emitter.proofs.Drafts.{count-room, count-full, refused-draft, table-full, table-room, small}
+use Rattle.numerals.proofs.Ints.{small}
+use Rattle.emitter.proofs.Drafts.{count-room, count-full, refused-draft, table-full, table-room}
 use Rattle.emitter.specs.Drafts.{known, exitAt, draft, put}
 use lib.IntN.{pos}
 use Rattle.language.specs.Layout.{opcode}

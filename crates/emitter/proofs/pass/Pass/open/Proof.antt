@@ -1,5 +1,6 @@
 -- `open` meets its contract.
-use Rattle.emitter.proofs.Drafts.{open-room, open-full, refused-draft, small}
+use Rattle.numerals.proofs.Ints.{small}
+use Rattle.emitter.proofs.Drafts.{open-room, open-full, refused-draft}
 use lib.IntN.{pos}
 use mir.Val.{toZ}
 use mir.Syntax.{w32}

@@ -1,5 +1,6 @@
 -- `print` meets its contract: the cells that the rest of the bytes add to those so far are the cells that all of them add at the start.
-use Rattle.emitter.proofs.Drafts.{small, part-step, part-length, table-full, table-room, bytes-length}
+use Rattle.numerals.proofs.Ints.{small}
+use Rattle.emitter.proofs.Drafts.{part-step, part-length, table-full, table-room, bytes-length}
 use Rattle.language.specs.Limits.{maxCells}
 use Rattle.emitter.specs.Drafts.{known, draft, put, lay, knownBytes, printCells}
 use Rattle.emitter.specs.declared.pass.Pass.{Pass}
