@@ -1,6 +1,6 @@
 /*
  * The proved linker against a linker in plain C, in one run: both give the same numbers and the same cells on many texts, and then the time of each on
- * short, typical and longest texts.
+ * short, typical and longest texts. bench/places builds and runs it.
  */
 #define _POSIX_C_SOURCE 199309L
 #include "plain_linker.h"

@@ -1,5 +1,5 @@
-/* Steps per second of the proved interpreter beside a plain C interpreter with the same checks, in one program. Each must be at most 1.3 times
-   slower than C. bench/run-steps builds and runs it. */
+/* Steps per second of the proved interpreter beside a plain C interpreter with the same checks, in one program. bench/places builds and runs it, and
+   holds each row to 1.3 times plain C. */
 #include <stdint.h>
 #include <stdio.h>
 #include <string.h>
@@ -237,9 +237,9 @@ static int compare(const char *name, uint32_t allowance, int runs) {
         }
     int same = steps[0] == steps[1] && memcmp(list[0], list[1], sizeof list[0]) == 0 && memcmp(output[0], output[1], sizeof output[0]) == 0;
     double ratio = best[0] / best[1];
-    printf("%-22s %7.1f M steps/s  C %7.1f  ratio %.2f%s%s\n", name, steps[0] / best[0] / 1e6, steps[1] / best[1] / 1e6, ratio, same ? "" : "  DIFFERENT ANSWERS",
-           1.3 < ratio ? "  SLOW" : "");
-    return !same || 1.3 < ratio;
+    if (!same) printf("DIFFERENT ANSWERS: %s\n", name);
+    printf("%-22s %7.1f M steps/s  C %7.1f  ratio %.2f\n", name, steps[0] / best[0] / 1e6, steps[1] / best[1] / 1e6, ratio);
+    return !same;
 }
 
 #define PUT(letter, ...) do { const int32_t t[] = {__VA_ARGS__}; put(letter, t, sizeof t / sizeof *t); } while (0)

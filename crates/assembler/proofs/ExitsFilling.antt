@@ -17,16 +17,19 @@ use Rattle.assembler.proofs.ExitsLayout.{Back, with-at, before, backs}
 
 -- ── a cell in the arrays ────────────────────────────────────────────────────────────────────────
 
+-- what the first pass leaves in a cell
 abbrev pub valueOf : Cell → ℤ
 valueOf (known z) = z
 valueOf (awaits f v) = pos 0
 valueOf (colonAt v z) = z
 
+-- the byte that it keeps for the cell
 abbrev pub kindByte : Cell → ℕ
 kindByte (known z) = 0
 kindByte (awaits f v) = fixupByte f
 kindByte (colonAt v z) = colonByte
 
+-- the level that it keeps for the cell
 abbrev pub levelOf : Cell → ℕ
 levelOf (known z) = 0
 levelOf (awaits f v) = v

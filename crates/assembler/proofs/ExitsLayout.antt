@@ -16,6 +16,7 @@ use Rattle.emitter.specs.Drafts.{exitOpen, endOpen, closeOpen, Cell, known, awa
 
 -- ── the first pass ──────────────────────────────────────────────────────────────────────────────
 
+-- an operation's cells after the first pass
 abbrev pub operationDraft : Operation → List Cell
 operationDraft (operator o) = known (opcode (operatorByte o)) ∷ []
 operationDraft (variable a k) = operandCells (accessByte a) (pos k)
@@ -27,6 +28,7 @@ abbrev pub predicateDraft : Predicate → ℕ → List Cell
 predicateDraft (condition c) v = testCells (conditionByte c) v
 predicateDraft (counter m k) v = counterCells (suc m) k v
 
+-- a call's, at level v
 abbrev pub callDraft : ℕ → ℕ → List Cell
 callDraft a v = testCells (letterByte a) v
 
@@ -48,9 +50,11 @@ pub record Back : Type 0 where
   pub false-of : ℕ → ℤ
   pub end-of : ℕ → ℤ
 
+-- its parts together
 abbrev pub back : List ℤ → (ℕ → ℤ) → (ℕ → ℤ) → Back
 back o f e = record { out = o; false-of = f; end-of = e }
 
+-- the function f with z at v
 abbrev pub with-at : (ℕ → ℤ) → ℕ → ℤ → ℕ → ℤ
 with-at f v z j = cond (eqb j v) z (f j)
 

@@ -23,6 +23,7 @@ use Rattle.assembler.proofs.ScanningSimulation.{Image, Outcome, goes, c
 
 -- ── the start ───────────────────────────────────────────────────────────────────────────────────
 
+-- the pass after the outermost `(`: cell 1 is laid
 abbrev pub start : Pass
 start = record { fault = 0; level = 1; used = 1; counters = 0 }
 

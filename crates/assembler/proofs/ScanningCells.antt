@@ -172,6 +172,7 @@ zeros-agree = record { places = refl; each = λ j h. getD-replicate levelPlaces 
 abbrev pub textCells : Expr → List Cell
 textCells w = emit w 0 codeStart codeStart (known (pos 1) ∷ [])
 
+-- cell 1
 abbrev pub headCell : List Cell
 headCell = known (pos firstCell) ∷ []
 

@@ -45,6 +45,7 @@ Around [] h R F = (h ≡ codeStart) × (R ≡ headCell) × (getD F 1 (pos 0) ≡
 Around (g ∷ st) h R F =
     (h₀ : ℕ) × (R₀ : List Cell) × Context g (length st) h₀ h R₀ R × (getD F (suc (suc (length st))) (pos 0) ≡ pos h) × Around st h₀ R₀ F
 
+-- The draft d is the image of the parser's place inside the expression f, with st around it, cell q next and c counters so far.
 pub record Image (d : Draft) (f : Expr → Expr) (st : List (Expr → Expr)) (q c : ℕ) : Type 0 where
   pub fault-is : d .fault ≡ 0
   pub level-is : d .level ≡ suc (length st)

@@ -85,6 +85,7 @@ module _ (sound : Bool) (stands : ℕ → Bool) where
 -- ── which refusal fits, test by test ────────────────────────────────────────────────────────────
 
 module _ (sound : Bool) (stands : ℕ → Bool) where
+  -- a store that is not sound
   pub store-refused : (c : Call) → sound ≡ false → refusal sound stands c ≡ some BadStore
   unfolding refusal tests
   store-refused (defines l t) e = rw e
@@ -92,6 +93,7 @@ module _ (sound : Bool) (stands : ℕ → Bool) where
   store-refused (runs x) e = rw e
 
   module _ (fine : sound ≡ true) where
+    -- no letter
     pub letter-refused : (c : Call) → isLetter (letterOf c) ≡ false → refusal sound stands c ≡ some NoSuchLetter
     unfolding refusal tests
     letter-refused (defines l t) e = rw (fine, e)
@@ -117,19 +119,23 @@ module _ (sound : Bool) (stands : ℕ → Bool) where
         go false = refl
 
     module _ (x : Run) (letter : isLetter (x .letter) ≡ true) where
+      -- a run of a letter that does not stand
       pub standing-refused : stands (letterIndex (x .letter)) ≡ false → refusal sound stands (runs x) ≡ some NotStanding
       unfolding refusal tests
       standing-refused e = rw (fine, letter, e)
 
       module _ (standing : stands (letterIndex (x .letter)) ≡ true) where
+        -- an input outside the values
         pub input-refused : lawful (x .inputs) ≡ false → refusal sound stands (runs x) ≡ some BadInput
         unfolding refusal tests
         input-refused e = rw (fine, letter, standing, e)
 
+        -- a list that has not 64 places
         pub list-refused : lawful (x .inputs) ≡ true → (length (x .list) ≡ maxHeight → ⊥) → refusal sound stands (runs x) ≡ some BadList
         unfolding refusal tests
         list-refused e h = rw (fine, letter, standing, e, ne-eqb (length (x .list)) maxHeight h)
 
+        -- a run that nothing refuses
         pub run-free : lawful (x .inputs) ≡ true → length (x .list) ≡ maxHeight → refusal sound stands (runs x) ≡ none
         unfolding refusal tests
         run-free e h = rw (fine, letter, standing, e, eq-eqb (length (x .list)) maxHeight h)

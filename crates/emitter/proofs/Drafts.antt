@@ -18,38 +18,47 @@ use Rattle.language.specs.declared.Refusal.the-variants.{Deep, TableFull, ManyC
 use Rattle.emitter.specs.declared.pass.Pass.{Pass}
 use Rattle.emitter.specs.Drafts.{Cell, known, closeAt, Draft, draft, refuse, lay, put, fit, atLevel, opened, closed, counterCells, countOn, counted, knownBytes, Refused}
 
+-- there is room for the cells
 pub fit-room : (d : Draft) (cs : List Cell) → d .used + length cs ≤ maxCells → fit d cs ≡ lay d cs
 unfolding fit
 fit-room d cs h = simp (le-leb _ _ h)
 
+-- there is none
 pub fit-full : (d : Draft) (cs : List Cell) → maxCells < d .used + length cs → fit d cs ≡ refuse d TableFull
 unfolding fit
 fit-full d cs h = simp (lt-leb _ _ h)
 
+-- one level more
 pub open-room : (d : Draft) → d .level < maxLevels → opened d ≡ atLevel d (d .level + 1) (set (d .starts) (d .level + 1) (pos (d .used + 1)))
 unfolding opened
 open-room d h = simp (lt-ltb _ _ h)
 
+-- an 11th level
 pub open-full : (d : Draft) → maxLevels ≤ d .level → opened d ≡ refuse d Deep
 unfolding opened
 open-full d h = simp (le-ltb _ _ h)
 
+-- the last `)`
 pub close-last : (d : Draft) → d .level - 1 ≡ 0 → closed d ≡ fit (atLevel d (d .level - 1) (d .starts)) (closeAt (d .level - 1) ∷ known (pos 1) ∷ [])
 unfolding closed
 close-last d h = simp (eq-eqb (d .level - 1) 0 h)
 
+-- an inner `)`
 pub close-inner : (d : Draft) → (d .level - 1 ≡ 0 → ⊥) → closed d ≡ fit (atLevel d (d .level - 1) (d .starts)) (closeAt (d .level - 1) ∷ [])
 unfolding closed
 close-inner d h = simp (ne-eqb (d .level - 1) 0 h)
 
+-- one counter more
 pub count-room : (d : Draft) (n : ℕ) → d .counters < maxCounters → counted d n ≡ fit (countOn d) (counterCells n (d .counters) (d .level))
 unfolding counted
 count-room d n h = simp (lt-ltb _ _ h)
 
+-- a 17th
 pub count-full : (d : Draft) (n : ℕ) → maxCounters ≤ d .counters → counted d n ≡ refuse d ManyCounters
 unfolding counted
 count-full d n h = simp (le-ltb _ _ h)
 
+-- a cell for each byte
 pub bytes-length : (l : List ℕ) → length (knownBytes l) ≡ length l
 bytes-length [] = refl
 bytes-length (b ∷ l) = ap suc (bytes-length l)

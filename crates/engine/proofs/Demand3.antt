@@ -28,6 +28,7 @@ chained s (x ∷ ss) h =
     let e = chained (x .store) ss (h .1) ∙ ap (λ z. storeAnswers (z .kept) (callsOf ss)) (h .0) in
     λ i. h .0 i .reply ∷ e i
 
+-- Every session answers as the book does.
 pub demand-3 : Demand3
 demand-3 s ss e h = chained s ss h ∙ ap (λ z. storeAnswers z (callsOf ss)) e ∙ answers-agree (callsOf ss)
 

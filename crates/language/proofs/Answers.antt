@@ -8,6 +8,7 @@ use Rattle.language.specs.declared.Ending.{Ending}
 use Rattle.language.specs.declared.Ending.the-variants.{Finished, Spent, ListEmpty, ListFull, Range, ZeroDivisor, NoInput, PaperOut, NoText, DeepCalls, Damaged}
 use Rattle.language.specs.Answers.{refusalNumber, isRefusal, endingNumber}
 
+-- no ending's number refuses
 pub ending-no-refusal : (e : Ending) → isRefusal (endingNumber e) ≡ false
 ending-no-refusal Finished = refl
 ending-no-refusal Spent = refl
@@ -21,6 +22,7 @@ ending-no-refusal NoText = refl
 ending-no-refusal DeepCalls = refl
 ending-no-refusal Damaged = refl
 
+-- no refusal's number is 0
 pub refusal-not-zero : (r : Refusal) → refusalNumber r ≡ 0 → ⊥
 refusal-not-zero NoSuchLetter e = omega arith
 refusal-not-zero LongText e = omega arith

@@ -33,6 +33,7 @@ use Rattle.language.proofs.MeaningFollowing.{step, andThen, follow, fol
 abbrev Fault : Refusal → Type 0
 Fault r = between 2 9 (refusalNumber r) ≡ true
 
+-- a reading is refused by such a fault, if at all
 abbrev pub FaultOnly : Reading → Type 0
 FaultOnly (refused r) = Fault r
 FaultOnly (accepted w) = Unit {0}
@@ -213,6 +214,7 @@ fault-read t = fault-require (leb (length t) maxText) LongText _ refl (fault-par
 abbrev Proper : Ending → Type 0
 Proper e = between 20 28 (endingNumber e) ≡ true
 
+-- an outcome is stopped by such an ending, if at all
 abbrev pub ProperOutcome : Outcome → Type 0
 ProperOutcome (ended t s r) = Unit {0}
 ProperOutcome (stopped e s r) = Proper e

@@ -25,6 +25,7 @@ use Rattle.language.proofs.MachineInvariants.{Coded, DecodedSo, EffectS
 
 -- ── lists of values ─────────────────────────────────────────────────────────────────────────────
 
+-- every number of a list is within the values
 abbrev pub Lawful : List ℤ → Type 0
 Lawful l = lawful l ≡ true
 
@@ -41,6 +42,7 @@ lawful-get [] i h = refl
 lawful-get (x ∷ l) zero h = first-true (isValue x) (lawful l) h
 lawful-get (x ∷ l) (suc i) h = lawful-get l i (second-true (isValue x) (lawful l) h)
 
+-- zeros are
 pub lawful-zeros : (n : ℕ) → Lawful (replicate n (pos 0))
 unfolding lawful isValue
 lawful-zeros zero = refl
@@ -59,6 +61,7 @@ LawfulOperation (print b) = Unit {0}
 
 -- ── states ──────────────────────────────────────────────────────────────────────────────────────
 
+-- so are the numbers of a state
 pub record Sane (s : State) : Type 0 where
   pub stack : Lawful (s .stack)
   pub inputs : Lawful (s .inputs)

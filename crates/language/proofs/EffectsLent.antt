@@ -199,6 +199,7 @@ final : (o : List ℕ) (x : Outcome) → OutcomeSo (Lent o) x → Lent o (finalS
 final o (ended t s r) h = h
 final o (stopped e s r) h = h
 
+-- Every run over any cells leaves the list and the output so.
 pub lent-parts : LentParts
 unfolding execute
 lent-parts c u a n v i o =

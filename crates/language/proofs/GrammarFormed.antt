@@ -9,16 +9,19 @@ use Rattle.language.specs.Tokens.{printByte}
 use Rattle.language.specs.Values.{isValue}
 use Rattle.language.specs.Grammar.{AllBytes}
 
+-- an operation as a text can have it
 abbrev pub FormedOperation : Operation → Type 0
 FormedOperation (operator o) = Unit {0}
 FormedOperation (variable a k) = (1 ≤ k) × (k ≤ maxVariables)
 FormedOperation (constant v) = isValue v ≡ true
 FormedOperation (print b) = AllBytes printByte b
 
+-- a predicate
 abbrev pub FormedPredicate : Predicate → Type 0
 FormedPredicate (condition c) = Unit {0}
 FormedPredicate (counter m k) = (m < 9999) × (k < maxCounters)
 
+-- an expression
 abbrev pub FormedExpr : Expr → Type 0
 FormedExpr close = Unit {0}
 FormedExpr (semi e) = FormedExpr e

@@ -28,6 +28,7 @@ announce (mPredicate (condition t)) r = begins ∷ asks t ∷ r
 announce (mPredicate (counter m k)) r = begins ∷ counts m ∷ r
 announce (mCall a) r = begins ∷ calls a ∷ r
 
+-- the tokens of marks, to the end of the text
 abbrev pub tokensOf : List Mark → List Token
 tokensOf [] = ends ∷ []
 tokensOf (m ∷ ms) = announce m (tokensOf ms)

@@ -14,8 +14,10 @@ letter-lt l h = let k = between-bounds firstLetter lastLetter l h in omega arith
 
 -- where the test u was not false: the byte is not below `a`, and its index is below 26
 module _ (l : ℕ) (u : Bool) (tested : u ≡ isLetter l) (passed : not u ≡ false) where
+  -- it is not below `a`
   pub letter-from : firstLetter ≤ l
   letter-from = between-bounds firstLetter lastLetter l (sym tested ∙ not-false u passed) .0
 
+  -- its index is below 26
   pub letter-index : letterIndex l < maxLetters
   letter-index = letter-lt l (sym tested ∙ not-false u passed)

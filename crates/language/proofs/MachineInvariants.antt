@@ -16,6 +16,7 @@ use Rattle.language.specs.Effects.{onCall}
 -- ── code whose operations have a property Q ─────────────────────────────────────────────────────
 
 module _ (Q : Operation → Type 0) where
+  -- an instruction whose operation has it
   abbrev pub Coded : Instruction → Type 0
   Coded (transfer n) = Unit {0}
   Coded fail = Unit {0}
@@ -23,6 +24,7 @@ module _ (Q : Operation → Type 0) where
   Coded (testAt p n f) = Unit {0}
   Coded (callAt a n f) = Unit {0}
 
+  -- a decoded cell whose operation has it
   unfoldable pub DecodedSo : Decoded → Type 0
   DecodedSo last = Unit {0}
   DecodedSo damaged = Unit {0}
@@ -40,14 +42,17 @@ module _ (Q : Operation → Type 0) where
 -- ── states with a property P ────────────────────────────────────────────────────────────────────
 
 module _ (P : State → Type 0) where
+  -- an effect that leaves such a state
   abbrev pub EffectSo : Effect → Type 0
   EffectSo (goes s) = P s
   EffectSo (stops e) = Unit {0}
 
+  -- a verdict that leaves such a state
   abbrev pub VerdictSo : Verdict → Type 0
   VerdictSo (answers t s) = P s
   VerdictSo (stalls e) = Unit {0}
 
+  -- an outcome with such a state
   abbrev pub OutcomeSo : Outcome → Type 0
   OutcomeSo (ended t s r) = P s
   OutcomeSo (stopped e s r) = P s

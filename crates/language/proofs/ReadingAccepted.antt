@@ -19,5 +19,6 @@ spelled-formed t w s i =
 pub accepted-formed : (t : List ℕ) (w : Expr) → read t ≡ accepted w → FormedExpr w
 accepted-formed t w h = let k = reading-sound t w h in spelled-formed t w (k .grammar) (k .limits)
 
+-- an accepted text has at most 250 cells
 pub accepted-used : (t : List ℕ) (w : Expr) → read t ≡ accepted w → usedCells w ≤ maxCells
 accepted-used t w h = reading-sound t w h .limits .cells

@@ -134,6 +134,7 @@ inside-sound (t ∷ l) w f st q c hs hc h =
     within-sound l (λ p. parse l p) w (λ f′ st′ q′ c′ hs′ hc′ h′. inside-sound l w f′ st′ q′ c′ hs′ hc′ h′) (λ v c′ h′. over-sound l v w c′ h′)
     t f st q c hs hc h
 
+-- the tokens l are those of the expression w, which keeps the limits
 pub record Sound (l : List Token) (w : Expr) : Type 0 where
   pub clean : Clean l
   pub order : marksIn 0 l ≡ mOpen ∷ marks w []

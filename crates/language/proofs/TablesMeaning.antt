@@ -64,6 +64,7 @@ length-expr (inner f e) h x c q r =
     let j = length-expr f q (afterExpr f q) (falseExit e (afterExpr f q)) q (exprCells e h x c (afterExpr f q) r) in
     omega arith
 
+-- a layout fills 250 cells
 pub length-layout : (w : Expr) → usedCells w ≤ maxCells → length (layout w .cells) ≡ maxCells
 length-layout w le =
     let i = length-expr w 2 (usedCells w) 0 2 (pos 1 ∷ replicate (maxCells - usedCells w) (pos 0)) in
@@ -72,6 +73,7 @@ length-layout w le =
 
 -- ── accepted texts ──────────────────────────────────────────────────────────────────────────────
 
+-- every expression has 3 cells or more
 pub used-least : (w : Expr) → 3 ≤ usedCells w
 used-least w = after-lt w 2
 
@@ -91,6 +93,7 @@ stored-stands texts c u a (some w) h =
     subst (λ (t : Table). (not (eqb (t .used) 0) ≡ true) × Decodes (decode t) w 2 (usedCells w) outermost 2 × (decode t (usedCells w) ≡ last)) (sym (h .table))
     (ap not (ne-eqb (usedCells w) 0 (omega arith)), d .0, d .1)
 
+-- Over the tables of standing texts the machine gives what the meaning gives.
 pub machine-meaning : MachineMeaning
 unfolding execute
 machine-meaning texts c u h a w e n g s lt =

@@ -32,6 +32,7 @@ module _ (s : List ℕ) (i : ℕ) where
   unfolding tokens
   tokens-at m h = ap (λ l. tokens l m) (drop-cons s i 0 h) ∙ ap (λ j. scan m (getD s i 0) (λ m′. tokens (drop j s) m′)) (sym (add-one i))
 
+  -- the tokens at the end of the text
   pub tokens-end : (m : Mode) → length s ≤ i → tokens (drop i s) m ≡ finish m
   unfolding tokens
   tokens-end m h = ap (λ l. tokens l m) (drop-of-length-le s h)

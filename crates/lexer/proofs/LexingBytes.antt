@@ -10,10 +10,12 @@ use lib.Dec.{T}
 use mir.Val.{hasKey}
 use types.Run.{OneOf, hit}
 
+-- both tests hold; computed from the first, as `T` of a range of bytes needs it
 abbrev pub both : Bool → Bool → Bool
 both true b = b
 both false b = false
 
+-- one of two tests holds
 abbrev pub either : Bool → Bool → Bool
 either true b = true
 either false b = b

@@ -119,6 +119,7 @@ sorted-as b r k h e f = subst (λ k. Sorted k b) (sym e ∙ f) (sorted b h)
 
 -- ── what stands around the outermost expression ─────────────────────────────────────────────────
 
+-- a class that is not skipped between marks
 abbrev pub isMark : Class → Bool
 isMark blank = false
 isMark quote = false
@@ -149,6 +150,7 @@ isOpening dollar = false
 isOpening tick = false
 isOpening stray = false
 
+-- such a class other than the `(`
 abbrev pub isOther : Class → Bool
 isOther c = cond (isOpening c) false (isMark c)
 
@@ -157,6 +159,7 @@ else-right true x t e = absurd (subst (λ (b : Bool). T b) e t)
 else-right false x t e = t
 
 module _ (b : ℕ) (h : b < 256) (i : Inked b) where
+  -- a byte that is not skipped is of such a class
   pub a-mark : T (isMark (class b))
   unfolding class
   a-mark =
@@ -168,6 +171,7 @@ module _ (b : ℕ) (h : b < 256) (i : Inked b) where
       (ne-eqb b newlineByte (i .no-newline)))
       (ne-eqb b quoteByte (i .no-quote))
 
+  -- one that is no `(` either
   pub no-opening : (b ≡ openByte → ⊥) → T (isOther (class b))
   unfolding class
   no-opening n =
@@ -181,6 +185,7 @@ module _ (b : ℕ) (h : b < 256) (i : Inked b) where
       (ne-eqb b quoteByte (i .no-quote)))
       (ne-eqb b openByte n)
 
+-- the class of `(`
 pub the-opening : (b : ℕ) → b ≡ openByte → class b ≡ opening
 unfolding class
 the-opening b e = rw e

@@ -1,13 +1,12 @@
 // The linker: from a source text to its code table, or to the number of its refusal.
 ghost use mathlib.Core.Path.{_≡_};
 ghost use Prim.Native.Nat.{min};
-ghost use lib.ListN.{length};
 ghost use lib.Seq.{paste};
 ghost use Rattle.language.specs.Answers.{refusalNumber};
 ghost use Rattle.language.specs.Layout.{cleared};
 ghost use Rattle.language.specs.Limits.{maxCells};
 ghost use Rattle.language.specs.Reading.{read};
-ghost use Rattle.linker.specs.Linked.{linked, Copies};
+ghost use Rattle.linker.specs.Linked.{linked, Handed, Copies};
 use assembler::exits::fill;
 use assembler::scan::scan;
 use language::Refusal;
@@ -109,9 +108,7 @@ fn at_most(n: usize) -> usize
 // For C: the same, and the table's cells in the places that are lent, up to 250 of them; the other places stay as they were.
 #[no_mangle]
 pub extern "C" fn rec_link(text: &[u8], cells: &mut [i32]) -> u32
-    ensures { λ r. ⌜ (r ≡ linked (read (now (text .entry))) .number)
-        × (now (cells .exit)
-        ≡ paste (now (cells .entry)) 0 (linked (read (now (text .entry))) .table .cells) (min maxCells (length (now (cells .entry))))) ⌝ }
+    ensures { λ r. ⌜ Handed (linked (read (now (text .entry)))) r (now (cells .entry)) (now (cells .exit)) ⌝ }
 {
     let l = link(text);
     let t = l.table;

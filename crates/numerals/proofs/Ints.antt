@@ -32,12 +32,15 @@ value-far m n h = sym (rw (lt-leb n maxValue h))
 pub value-near : (m : Bool) (n : ℕ) → n ≤ maxValue → valueOf m n ≡ signed m n
 value-near m n h = rw (le-leb n maxValue h)
 
+-- its negative fits in 32 bits
 pub minus-fits : (n : ℕ) → n ≤ maxValue → SFits w32 (pos 0 -ℤ toZ w32 n)
 minus-fits n h = rw (small n h, less (pos n)) (negative-fits n h)
 
+-- and is its value after a `-`
 pub minus-is : (n : ℕ) → n ≤ maxValue → toZ w32 (ofZ w32 (pos 0 -ℤ toZ w32 n)) ≡ valueOf true n
 minus-is n h = toZ-ofZ (minus-fits n h) ∙ ap (λ z. pos 0 -ℤ z) (small n h) ∙ less (pos n) ∙ sym (value-near true n h)
 
+-- itself is its value without
 pub plain-is : (n : ℕ) → n ≤ maxValue → toZ w32 n ≡ valueOf false n
 plain-is n h = small n h ∙ sym (value-near false n h)
 
