@@ -21,3 +21,4 @@ pub mod TokensSound
 pub mod Values
 pub mod Ints
 pub mod Tests
+pub mod Copies

@@ -6,8 +6,8 @@ use Prim.Native.Nat.{ℕ, suc, _+_, _*_, _-_, _^_, _≤_, _<_}
 use native.Mathlib.Nat.{pow-suc, pow-le-pow-right}
 use native.Mathlib.Numerals.{add-one}
 use native.Mathlib.Omega.{arith}
-use lib.ListN.{length, getD, set, take, drop, replicate, length-append, length-set, length-drop, length-replicate}
-use lib.Seq.{paste, paste-zero, paste-suc, drop-cons, drop-drop, take-all, take-length, take-paste, drop-paste, length-paste}
+use lib.ListN.{length, getD, take, drop, replicate, length-append, length-drop, length-replicate}
+use lib.Seq.{paste, drop-cons, drop-drop, take-all, take-length, take-paste, drop-paste, length-paste}
 use lib.Dec.{lit<, leb}
 use borrow.Author.Tests.{le-leb, lt-leb, leb-true}
 use Rattle.language.specs.Decimals.{maxDigits, justified}
@@ -15,6 +15,7 @@ use Rattle.language.specs.Bytes.{blankByte, digitByte, isDigit}
 use Rattle.language.specs.Grammar.{Digits, digitBytes, valueFrom}
 use Rattle.numerals.specs.declared.Numeral.{Numeral}
 use Rattle.numerals.specs.Numerals.{DigitsAt, Reads, Written, wrote, written, maxColumns, Ends}
+use Rattle.language.proofs.Copies.{Pasting, pasting-done}
 use Rattle.numerals.proofs.Decimals.{ends-length}
 
 -- ── read ────────────────────────────────────────────────────────────────────────────────────────
@@ -122,30 +123,11 @@ module _ (o : List ℕ) (at : ℕ) (b : List ℕ) where
   unfolding written
   written-no-room e = sym (rw e)
 
--- a copy of the bytes b to a place of the buffer o, after i bytes
-pub record Pasting (o : List ℕ) (at : ℕ) (b out : List ℕ) (i : ℕ) : Type 0 where
-  pub room : at + length b ≤ length o
-  pub within : i ≤ length b
-  pub size : length out ≡ length o
-  pub bytes : out ≡ paste o at b i
-
-module _ (o : List ℕ) (at : ℕ) (b : List ℕ) where
-  pub pasting-none : at + length b ≤ length o → Pasting o at b o 0
-  pasting-none h = record { room = h; within = omega arith; size = refl; bytes = paste-zero o at b }
-
-  pub pasting-more : (out : List ℕ) (i x : ℕ) → Pasting o at b out i → i < length b → getD b i 0 ≡ x → Pasting o at b (set out (at + i) x) (i + 1)
-  pasting-more out i x p h e =
-      record {
-        room = p .room;
-        within = omega arith;
-        size = length-set out (at + i) x ∙ p .size;
-        bytes = rw (← e, p .bytes, add-one i) (paste-suc o at b i 0 (omega (arith, p .room)) h);
-      }
-
-  pub pasting-done : (out : List ℕ) (i : ℕ) → Pasting o at b out i → length b ≤ i → wrote (at + i) out ≡ written o at b
-  pasting-done out i p h =
-      let e : i ≡ length b = omega (arith, p .within) in
-      (λ j. wrote (at + e j) ((p .bytes ∙ ap (paste o at b) e) j)) ∙ written-room o at b (p .room)
+-- all bytes b are copied to a place of the buffer o
+pub pasted : (o : List ℕ) (at : ℕ) (b out : List ℕ) (i : ℕ) → Pasting o at b (length b) out i → length b ≤ i → wrote (at + i) out ≡ written o at b
+pasted o at b out i p h =
+    let e : i ≡ length b = omega (arith, p .within) in
+    (λ j. wrote (at + e j) (pasting-done o at b (length b) out i p h j)) ∙ written-room o at b (p .room)
 
 -- bytes pasted after others
 paste-two : (o : List ℕ) (at : ℕ) (a b : List ℕ) → at + length a ≤ length o

@@ -5,12 +5,13 @@ use native.Mathlib.Omega.{arith}
 use lib.ListN.{length}
 use borrow.Author.Needs.{needs}
 use borrow.Author.Tests.{leb-true, not-true, not-false}
-use Rattle.numerals.proofs.Numerals.{Pasting, pasting-none, pasting-more, pasting-done, written-no-room}
+use Rattle.language.proofs.Copies.{Pasting, pasting-none, pasting-more}
+use Rattle.numerals.proofs.Numerals.{pasted, written-no-room}
 use Rattle.numerals.proofs.write_bytes.Statement.{statement}
 use Rattle.numerals.proofs.write_bytes.Tie as tie
 
 abbrev Inv-loop : tie.InvT-loop
-Inv-loop out₀ at bytes i₀ out i = Pasting out₀ at bytes out i
+Inv-loop out₀ at bytes i₀ out i = Pasting out₀ at bytes (length bytes) out i
 
 abbrev μ-loop : tie.MeasureT-loop
 μ-loop out₀ at bytes i₀ out i = length bytes - i
@@ -22,7 +23,7 @@ returns : tie.Need-returns Inv-loop μ-loop
 returns c = written-no-room _ _ _ (sym (c .before .fits2 .ensures) ∙ not-true _ (c .if1 .taken))
 
 loop-holds : tie.Need-loop-holds Inv-loop μ-loop
-loop-holds c = pasting-none _ _ _ (leb-true _ _ (sym (c .before .fits2 .ensures) ∙ not-false _ (c .if1 .left)))
+loop-holds c = pasting-none _ _ _ _ (leb-true _ _ (sym (c .before .fits2 .ensures) ∙ not-false _ (c .if1 .left))) (omega arith)
 
 shared-slice-read-out : tie.Need-shared-slice-read-out Inv-loop μ-loop
 shared-slice-read-out c = omega arith
@@ -40,7 +41,7 @@ loop-less : tie.Need-loop-less Inv-loop μ-loop
 loop-less c = omega arith
 
 loop-again : tie.Need-loop-again Inv-loop μ-loop
-loop-again c = pasting-more _ _ _ _ _ _ (c .before .before .loop .inv) (omega arith) refl
+loop-again c = pasting-more _ _ _ _ 0 _ _ _ _ (c .before .before .loop .inv) (omega arith) refl refl
 
 add-result : tie.Need-add-result Inv-loop μ-loop
 add-result c = omega arith
@@ -49,7 +50,7 @@ same-length : tie.Need-same-length Inv-loop μ-loop
 same-length c = c .before .loop .inv .size
 
 returns-2 : tie.Need-returns-2 Inv-loop μ-loop
-returns-2 c = pasting-done _ _ _ _ _ (c .before .loop .inv) (omega arith)
+returns-2 c = pasted _ _ _ _ _ (c .before .loop .inv) (omega arith)
 
 pub write-bytes-spec : {M : Type 1} → statement M
 write-bytes-spec =

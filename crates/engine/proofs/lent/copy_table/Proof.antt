@@ -2,26 +2,25 @@
 use borrow.Author.Needs.{needs}
 use mir.Syntax.{w32}
 use mir.Val.{toZ, ofZ}
-use mathlib.Core.Path.{_≡_, _∙_}
-use Prim.Native.Nat.{_-_, _≤_}
-use native.Mathlib.Numerals.{add-one}
+use mathlib.Core.Path.{_≡_, refl}
+use Prim.Native.Nat.{_-_}
 use native.Mathlib.Omega.{arith}
 use lib.ListN.{getD}
 use lib.IntN.{pos}
-use lib.Seq.{paste, paste-zero, paste-suc}
 use denote.Ref.{now}
 use Rattle.language.specs.Limits.{maxCells}
 use Rattle.engine.proofs.lent.copy_table.Statement.{statement}
 use Rattle.engine.proofs.lent.copy_table.Tie as tie
+use Rattle.language.proofs.Copies.{Pasting, pasting-none, pasting-more, pasting-done}
 
 abbrev Inv-loop : tie.InvT-loop
-Inv-loop cells₀ base table i₀ cells i = (i ≤ maxCells) × (cells ≡ paste cells₀ base table i)
+Inv-loop cells₀ base table i₀ cells i = Pasting cells₀ base table maxCells cells i
 
 abbrev μ-loop : tie.MeasureT-loop
 μ-loop cells₀ base table i₀ cells i = maxCells - i
 
 loop-holds : tie.Need-loop-holds Inv-loop μ-loop
-loop-holds c = (omega arith, paste-zero (now (c .args .cells)) (c .args .base) (now (c .args .table)))
+loop-holds c = pasting-none _ _ _ _ (omega arith) (omega arith)
 
 mul-cells : tie.Need-mul-cells Inv-loop μ-loop
 mul-cells c = omega arith
@@ -48,16 +47,11 @@ loop-again : tie.Need-loop-again Inv-loop μ-loop
 loop-again c =
     let s = c .before .before .before in
     let i = c .before .before .loop .i in
-    let e : toZ w32 (ofZ w32 (getD (s .args .table .now) i (pos 0))) ≡ getD (s .args .table .now) i (pos 0) = search needs in (
-      omega arith,
-      rw (c .before .before .loop .inv .1, e, add-one i)
-          (paste-suc (s .args .cells .now) (s .args .base) (s .args .table .now) i (pos 0) (omega arith) (omega arith)),
-    )
+    let e : getD (s .args .table .now) i (pos 0) ≡ toZ w32 (ofZ w32 (getD (s .args .table .now) i (pos 0))) = search needs in
+    pasting-more _ _ _ _ (pos 0) _ _ _ _ (c .before .before .loop .inv) (omega arith) refl e
 
 returns : tie.Need-returns Inv-loop μ-loop
-returns c =
-    let e : c .before .loop .i ≡ maxCells = omega arith in
-    c .before .loop .inv .1 ∙ rw e
+returns c = pasting-done _ _ _ _ _ _ (c .before .loop .inv) (omega arith)
 
 pub copy-table-spec : {M : Type 1} → statement M
 copy-table-spec =

@@ -1,22 +1,21 @@
 -- `instructions::output::copy_cells` meets its contract. The loop's invariant: the first i bytes are pasted.
 use mathlib.Core.Path.{_≡_, refl, sym, _∙_}
-use Prim.Native.Nat.{_+_, _-_, _≤_}
-use native.Mathlib.Numerals.{add-one}
+use Prim.Native.Nat.{_+_, _-_}
 use native.Mathlib.Omega.{arith}
 use lib.IntN.{pos}
-use lib.ListN.{length, getD, length-set}
-use lib.Seq.{paste, paste-zero, paste-suc}
+use lib.ListN.{getD}
 use mir.Syntax.{w32}
 use mir.Val.{toZ, ofZ}
 use denote.Ref.{now}
 use borrow.Author.Needs.{needs}
 use Rattle.operands.specs.Operands.{printsFrom}
+use Rattle.language.proofs.Copies.{Pasting, pasting-none, pasting-more, pasting-done}
 use Rattle.operands.proofs.Operands.{length-prints, getD-prints}
 use Rattle.instructions.proofs.output.copy_cells.Statement.{statement}
 use Rattle.instructions.proofs.output.copy_cells.Tie as tie
 
 abbrev Inv-loop : tie.InvT-loop
-Inv-loop output₀ to cells from n i₀ output i = (i ≤ n) × ((length output ≡ length output₀) × (output ≡ paste output₀ to (printsFrom cells from n) i))
+Inv-loop output₀ to cells from n i₀ output i = Pasting output₀ to (printsFrom cells from n) n output i
 
 abbrev μ-loop : tie.MeasureT-loop
 μ-loop output₀ to cells from n i₀ output i = n - i
@@ -31,7 +30,7 @@ module _ (c : tie.After-print-byte Inv-loop μ-loop) where
       (rw e at (c .print-byte .ensures)) ∙ sym (getD-prints l (c .before .before .before .before .before .args .from) (c .before .before .before .before .before .args .n) (c .before .before .before .loop .i) (omega arith))
 
 loop-holds : tie.Need-loop-holds Inv-loop μ-loop
-loop-holds c = (omega arith, (refl, paste-zero (now (c .before .args .output)) (c .before .args .to) (printsFrom (now (c .before .args .cells)) (c .before .args .from) (c .before .args .n))))
+loop-holds c = let s = c .before .args in pasting-none _ _ _ _ (omega arith) (omega (arith, length-prints (now (s .cells)) (s .from) (s .n)))
 
 add-print-byte : tie.Need-add-print-byte Inv-loop μ-loop
 add-print-byte c = omega arith
@@ -46,10 +45,10 @@ print-byte-requires : tie.Need-print-byte-requires Inv-loop μ-loop
 print-byte-requires c κs = search needs
 
 add-output : tie.Need-add-output Inv-loop μ-loop
-add-output c = omega (arith, c .before .before .before .loop .inv .1 .0)
+add-output c = omega (arith, c .before .before .before .loop .inv .size)
 
 slice-write-output : tie.Need-slice-write-output Inv-loop μ-loop
-slice-write-output c = omega (arith, c .before .before .before .loop .inv .1 .0)
+slice-write-output c = omega (arith, c .before .before .before .loop .inv .size)
 
 add-i : tie.Need-add-i Inv-loop μ-loop
 add-i c = omega arith
@@ -58,22 +57,13 @@ loop-less : tie.Need-loop-less Inv-loop μ-loop
 loop-less c = omega arith
 
 loop-again : tie.Need-loop-again Inv-loop μ-loop
-loop-again c = let s = c .before .before .before .before .before in
-    let i = c .before .before .before .loop .i in
-    let b = printsFrom (now (s .args .cells)) (s .args .from) (s .args .n) in (
-      omega arith,
-      (
-        length-set (c .before .before .before .loop .output) (s .args .to + i) _ ∙ c .before .before .before .loop .inv .1 .0,
-        rw (c .before .before .before .loop .inv .1 .1, byte (c), add-one i)
-            (paste-suc (now (s .args .output)) (s .args .to) b i 0 (omega arith) (omega (arith, length-prints (now (s .args .cells)) (s .args .from) (s .args .n)))),
-      ),
-    )
+loop-again c = pasting-more _ _ _ _ 0 _ _ _ _ (c .before .before .before .loop .inv) (omega arith) refl (sym (byte c))
 
 same-length : tie.Need-same-length Inv-loop μ-loop
-same-length c = c .before .loop .inv .1 .0
+same-length c = c .before .loop .inv .size
 
 returns : tie.Need-returns Inv-loop μ-loop
-returns c = let e : c .before .loop .i ≡ c .before .before .before .args .n = omega arith in c .before .loop .inv .1 .1 ∙ rw e
+returns c = pasting-done _ _ _ _ _ _ (c .before .loop .inv) (omega arith)
 
 pub copy-cells-spec : {M : Type 1} → statement M
 copy-cells-spec =
