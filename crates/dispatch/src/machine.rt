@@ -5,6 +5,7 @@ use arithmetic::BinaryOperator;
 use arithmetic::UnaryOperator;
 use instructions::output as paper;
 use instructions::stack;
+use instructions::stack::Access;
 use language::CONSTANT_CODE;
 use language::COUNTS;
 use language::Ending;
@@ -99,8 +100,8 @@ pub fn turn<'a>(
         DISCARD => stack::discard(m, list),
         COPY => stack::copy(m, list),
         INPUT => stack::input(m, inputs, list),
-        FETCH => stack::fetch(m, cells, base, end, vars, list),
-        SAVE => stack::save(m, cells, base, end, vars, list),
+        FETCH => stack::variable(m, cells, base, end, vars, list, Access::Fetch),
+        SAVE => stack::variable(m, cells, base, end, vars, list, Access::Save),
         CONSTANT => stack::constant(m, cells, base, end, list),
         WRITE => paper::write(m, list, output),
         NEWLINE => paper::newline(m, output),

@@ -1,9 +1,10 @@
 // `L P I F S` and constants: what moves values onto the operand stack, off it and beside it.
-ghost use Rattle.language.specs.Syntax.{discard, copy, input, fetch, save};
+ghost use Rattle.language.specs.Syntax.{discard, copy, input};
 ghost use Rattle.language.specs.Machine.{isVariable, isConstant};
 ghost use Rattle.operands.specs.Held.{stacked, fed, storing};
 ghost use Rattle.operands.specs.Turns.{Turns, pushing, operatorTurn, markAt};
 ghost use Rattle.operands.specs.Ready.{Ready, Pushing, Reading};
+ghost use Rattle.instructions.specs.Accesses.{accessOf};
 use language::Ending;
 use language::HEIGHT;
 use language::STORE_CELLS;
@@ -11,6 +12,12 @@ use language::VARIABLES;
 use operands::Machine;
 use operands::cells::digit_at;
 use validation::is_value;
+
+// `F` and `S`.
+pub enum Access {
+    Fetch,
+    Save,
+}
 
 // A value is pushed, and the next cell is at.
 fn push(m: Machine, list: &mut [i32; HEIGHT], v: i32, at: usize) -> Machine
@@ -105,42 +112,19 @@ pub fn constant(
     push(m, list, v, at + 2)
 }
 
-// The mark `F`.
-pub fn fetch<'a>(
+// The marks `F` and `S`.
+pub fn variable(
     m: Machine,
-    cells: &'a [i32; STORE_CELLS],
-    base: usize,
-    end: usize,
-    vars: &'a [i32; VARIABLES],
-    list: &mut [i32; HEIGHT],
-) -> Machine
-    requires { ⌜ Reading base end m ⌝ }
-    ensures { λ r. ⌜ Turns (markAt (now (cells .entry)) base end (isVariable fetch))
-        (storing m (now (vars .entry)) (now (list .entry))) (storing r (now (vars .entry)) (now (list .exit))) ⌝ }
-{
-    let at = m.at;
-    let d = digit_at(cells, base, end, at);
-    if d == 0 {
-        return m.stop(Ending::Damaged);
-    }
-    if m.left == 0 {
-        return m.stop(Ending::Spent);
-    }
-    push(m, list, vars[d % VARIABLES], at + 2)
-}
-
-// The mark `S`.
-pub fn save<'a>(
-    m: Machine,
-    cells: &'a [i32; STORE_CELLS],
+    cells: &[i32; STORE_CELLS],
     base: usize,
     end: usize,
     vars: &mut [i32; VARIABLES],
-    list: &'a [i32; HEIGHT],
+    list: &mut [i32; HEIGHT],
+    a: Access,
 ) -> Machine
     requires { ⌜ Reading base end m ⌝ }
-    ensures { λ r. ⌜ Turns (markAt (now (cells .entry)) base end (isVariable save))
-        (storing m (now (vars .entry)) (now (list .entry))) (storing r (now (vars .exit)) (now (list .entry))) ⌝ }
+    ensures { λ r. ⌜ Turns (markAt (now (cells .entry)) base end (isVariable (accessOf a)))
+        (storing m (now (vars .entry)) (now (list .entry))) (storing r (now (vars .exit)) (now (list .exit))) ⌝ }
 {
     let at = m.at;
     let d = digit_at(cells, base, end, at);
@@ -150,10 +134,16 @@ pub fn save<'a>(
     if m.left == 0 {
         return m.stop(Ending::Spent);
     }
-    let h = m.height;
-    if h < 1 {
-        return m.stop(Ending::ListEmpty);
+    let k = d % VARIABLES;
+    match a {
+        Access::Fetch => push(m, list, vars[k], at + 2),
+        Access::Save => {
+            let h = m.height;
+            if h < 1 {
+                return m.stop(Ending::ListEmpty);
+            }
+            vars[k] = list[h - 1];
+            m.go(at + 2, h)
+        }
     }
-    vars[d % VARIABLES] = list[h - 1];
-    m.go(at + 2, h)
 }

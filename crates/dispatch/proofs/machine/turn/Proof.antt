@@ -146,11 +146,11 @@ copy-requires c κs = ready (c .before .before) (operatorByte copy) refl (c .bef
 input-requires : tie.Need-input-requires
 input-requires c κs = ready (c .before .before) (operatorByte input) refl (c .before .match .keys9)
 
-fetch-requires : tie.Need-fetch-requires
-fetch-requires c κs = reading (c .before .before .before) (accessByte fetch) refl (c .before .before .match .keys10)
+variable-requires : tie.Need-variable-requires
+variable-requires c κs = reading (c .before .before .before) (accessByte fetch) refl (c .before .before .match .keys10)
 
-save-requires : tie.Need-save-requires
-save-requires c κs = reading (c .before .before .before) (accessByte save) refl (c .before .before .match .keys11)
+variable-requires-2 : tie.Need-variable-requires-2
+variable-requires-2 c κs = reading (c .before .before .before) (accessByte save) refl (c .before .before .match .keys11)
 
 constant-requires : tie.Need-constant-requires
 constant-requires c κs = reading (c .before .before) constantCode refl (c .before .match .keys12)
@@ -238,11 +238,11 @@ returns-9 c = record { turns = c .input .ensures (H (c .before .before .before .
 
 returns-10 : tie.Need-returns-10
 unfolding kind
-returns-10 c = record { turns = c .fetch .ensures (H (c .before .before .before .before .before .before .before)) ∙ mark-due (c .before .before .before .before) (accessByte fetch) _ refl refl (c .before .before .before .match .keys10); size = c .before .before .before .before .before .before .before .pre .size }
+returns-10 c = record { turns = c .variable .ensures (H (c .before .before .before .before .before .before .before)) ∙ mark-due (c .before .before .before .before) (accessByte fetch) _ refl refl (c .before .before .before .match .keys10); size = c .before .before .before .before .before .before .before .pre .size }
 
 returns-11 : tie.Need-returns-11
 unfolding kind
-returns-11 c = record { turns = c .save .ensures (H (c .before .before .before .before .before .before .before)) ∙ mark-due (c .before .before .before .before) (accessByte save) _ refl refl (c .before .before .before .match .keys11); size = c .before .before .before .before .before .before .before .pre .size }
+returns-11 c = record { turns = c .variable2 .ensures (H (c .before .before .before .before .before .before .before)) ∙ mark-due (c .before .before .before .before) (accessByte save) _ refl refl (c .before .before .before .match .keys11); size = c .before .before .before .before .before .before .before .pre .size }
 
 returns-12 : tie.Need-returns-12
 unfolding kind
@@ -303,7 +303,7 @@ returns-23 c =
 pub turn-spec : {M : Type 1} → statement M
 turn-spec =
     tie.close (tie.spec (λ c. search needs) (λ c. search needs) (λ c. search needs) byte-at-requires unary-requires unary-requires-2 binary-requires
-    binary-requires-2 binary-requires-3 binary-requires-4 discard-requires copy-requires input-requires fetch-requires save-requires constant-requires
+    binary-requires-2 binary-requires-3 binary-requires-4 discard-requires copy-requires input-requires variable-requires variable-requires-2 constant-requires
     write-requires newline-requires print-requires test-requires test-requires-2 test-requires-3 counter-requires transfer-requires end-of-requires
     call-requires (λ c κs. search needs) returns returns-2 returns-3 returns-4 returns-5 returns-6 returns-7 returns-8 returns-9 returns-10
     returns-11 returns-12 (λ c. search needs) returns-13 (λ c. search needs) returns-14 (λ c. search needs) returns-15 returns-16 returns-17
