@@ -207,6 +207,8 @@ shared =
     -- a counter goes on from where a recursive entry left it
     ∷ gives (record { texts = ("c", "('/1'$3$c;;)") ∷ []; letter = "c"; allowance = 99; inputs = []; room = 0 })
     (ends true 15 (pos 1 ∷ pos 1 ∷ pos 1 ∷ pos 1 ∷ []))
+    -- blanks, newlines and a comment are skipped; `,` is `;` and `.` is `:`
+    ∷ laidOut "\n(\" a\"N , N.) \n" (pos 2000 ∷ negℤ (pos 78) ∷ pos 5 ∷ pos 9 ∷ negℤ (pos 78) ∷ pos 8 ∷ pos 2 ∷ pos 0 ∷ pos 1 ∷ [])
     -- first faults, left to right
     ∷ refusedAs "" Unfinished
     ∷ refusedAs "($0$)" BadCounter

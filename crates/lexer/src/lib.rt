@@ -72,13 +72,14 @@ pub enum Number {
     Refused(Refusal),
 }
 
-// A token and the place after it, and the same for a fault.
+// A token and the place after it.
 fn answer(token: Token, next: usize) -> Lexed
     ensures { λ r. ⌜ r ≡ record { token = token; next = next } ⌝ }
 {
     Lexed { token, next }
 }
 
+// The same for a fault.
 fn fault(why: Refusal, next: usize) -> Lexed
     ensures { λ r. ⌜ r ≡ record { token = T.Fault why; next = next } ⌝ }
 {
@@ -111,6 +112,7 @@ fn kind_of(b: u8) -> Kind
     }
 }
 
+// A byte's number in 32 bits.
 fn wide(x: u8) -> u32
     ensures { λ r. ⌜ r ≡ x ⌝ }
 {
