@@ -22,7 +22,7 @@ use Rattle.language.specs.Meaning.{Outcome, ended, stopped, meaning}
 use Rattle.book.proofs.Store.{reported-accepts}
 use Rattle.language.proofs.Answers.{refusal-not-zero}
 use Rattle.language.proofs.Between.{between-bounds}
-use Rattle.language.proofs.AnswersOccurring.{ProperOutcome, proper-meaning}
+use Rattle.language.proofs.MeaningEndings.{ProperOutcome, proper-meaning}
 use Rattle.language.proofs.EffectsLent.{replicate-at}
 use Rattle.book.specs.Calls.{Run, Call, defines, withdraws, runs}
 use Rattle.book.specs.Replies.{Reply, Answered, reported, tells}

@@ -17,7 +17,7 @@ use Rattle.language.specs.Values.{lawful}
 use Rattle.language.specs.Syntax.{Expr}
 use Rattle.language.specs.Reading.{Reading, refused, accepted, read}
 use Rattle.language.proofs.Between.{between-bounds}
-use Rattle.language.proofs.AnswersOccurring.{FaultOnly, fault-read}
+use Rattle.language.proofs.ReadingFaults.{FaultOnly, fault-read}
 use Rattle.book.specs.Calls.{Run, Call, defines, withdraws, runs}
 use Rattle.book.specs.Refusals.{unless, faultOf, first, tests, refusal}
 

@@ -1,14 +1,14 @@
 -- The table of an expression decodes to the expression.
-use mathlib.Core.Path.{_≡_, refl, sym, _∙_, subst}
+use mathlib.Core.Path.{_≡_, refl, sym, ap, _∙_, subst}
 use Prim.Native.Nat.{ℕ, zero, suc, _-_, _≤_, _<_}
 use native.Mathlib.Omega.{arith}
 use mathlib.Core.List.{List, [], _∷_}
 use lib.IntN.{ℤ, pos}
-use lib.ListN.{length, getD, drop}
+use lib.ListN.{length, getD, drop, replicate}
 use borrow.Author.Tests.{lt-ltb, eq-eqb, ne-eqb}
 use Rattle.language.specs.Letters.{firstLetter, lastLetter, letterByte}
 use Rattle.language.specs.declared.Table.{Table}
-use Rattle.language.specs.Limits.{maxCounters, maxLetters}
+use Rattle.language.specs.Limits.{maxCells, maxCounters, maxLetters}
 use Rattle.language.specs.Syntax.{Operator, absolute, discard, negate, copy, write, newline, input, add, subtract, multiply, divide, operatorByte, counterCode, constantCode, printCode}
 use Rattle.language.specs.Syntax.{Access, fetch, save, accessByte, Condition, negative, null, equal, conditionByte}
 use Rattle.language.specs.Syntax.{Operation, operator, variable, constant, print, Predicate, condition, counter}
@@ -294,3 +294,21 @@ formed-decodes w g =
     let p = after-lt w 2 in
     let k = decodes (layout w) w 2 (usedCells w) outermost 2 _ g (omega arith) (omega arith) refl refl refl in
     (k .0, at-last (layout w) (usedCells w) _ (omega arith) refl (k .1))
+
+-- a cell past those from place q on
+past : (q : ℕ) (l : List ℤ) (c : ℤ) (n k : ℕ) → drop q l ≡ c ∷ replicate n (pos 0) → q < k → getD l k (pos 0) ≡ pos 0
+past zero l c n (suc k) e h = ap (λ z. getD z (suc k) (pos 0)) e ∙ zeros n k
+  where
+    zeros : (m j : ℕ) → getD (replicate m (pos 0)) j (pos 0) ≡ pos 0
+    zeros zero j = refl
+    zeros (suc m) zero = refl
+    zeros (suc m) (suc j) = zeros m j
+past (suc q) [] c n (suc k) e h = refl
+past (suc q) (x ∷ l) c n (suc k) e h = past q l c n k e (omega arith)
+
+-- The cells past the used ones are 0.
+pub formed-zeros : (w : Expr) → FormedExpr w → (q : ℕ) → usedCells w < q → cell (layout w) q ≡ pos 0
+formed-zeros w g q h =
+    let p = after-lt w 2 in
+    let k = decodes (layout w) w 2 (usedCells w) outermost 2 _ g (omega arith) (omega arith) refl refl refl in
+    past (usedCells w) (pos 0 ∷ layout w .cells) (pos 1) (maxCells - usedCells w) q (k .1) h

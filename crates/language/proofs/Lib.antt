@@ -1,5 +1,5 @@
 pub mod Answers
-pub mod AnswersOccurring
+pub mod MeaningEndings
 pub mod Between
 pub mod EffectsLawful
 pub mod EffectsLent
@@ -11,9 +11,11 @@ pub mod LayoutDecoding
 pub mod LayoutPositions
 pub mod Letters
 pub mod MachineInvariants
+pub mod MachineReads
 pub mod MachineSimulation
 pub mod MeaningFollowing
 pub mod ReadingAccepted
+pub mod ReadingFaults
 pub mod ReadingParsing
 pub mod TablesMeaning
 pub mod TokensComplete

@@ -53,7 +53,8 @@ abbrev Accepting : Reading → Type 0
 Accepting (refused r) = ⊥
 Accepting (accepted w) = Unit {0}
 
-not-accepted : (r : Refusal) (w : Expr) → refused r ≡ accepted w → ⊥
+-- a refused text is not accepted
+pub not-accepted : (r : Refusal) (w : Expr) → refused r ≡ accepted w → ⊥
 not-accepted r w h = subst Accepting (sym h) tt
 
 required : (u : Bool) (r : Refusal) (k : Unit {0} → Reading) (w : Expr) → require u r k ≡ accepted w → (u ≡ true) × (k tt ≡ accepted w)

@@ -1,6 +1,6 @@
 -- Accepted texts: their tables decode to them, and a run over their tables is their nested meaning.
-use mathlib.Core.Path.{_≡_, sym, ap, subst}
-use Prim.Native.Nat.{ℕ, zero, suc, _+_, _-_, _≤_}
+use mathlib.Core.Path.{_≡_, refl, sym, ap, subst}
+use Prim.Native.Nat.{ℕ, suc, _+_, _-_, _≤_}
 use native.Mathlib.Omega.{arith}
 use mathlib.Core.Bool.{true, not}
 use mathlib.Core.Option.{Option, none, some}
@@ -13,20 +13,16 @@ use Rattle.language.specs.declared.Table.{Table}
 use Rattle.language.specs.Limits.{maxCells}
 use Rattle.language.specs.Syntax.{Operation, operator, variable, constant, print, Predicate, condition, counter}
 use Rattle.language.specs.Syntax.{Expr, close, semi, colon, operate, test, call, inner}
-use Rattle.language.specs.Layout.{forward, afterOperation, afterPredicate, afterCall, afterExpr, falseExit, byteCells, operationCells, predicateCells, exprCells, usedCells, layout}
+use Rattle.language.specs.Layout.{afterOperation, afterPredicate, afterCall, afterExpr, falseExit, byteCells, operationCells, predicateCells, exprCells, usedCells, layout}
 use Rattle.language.specs.Machine.{last, decode}
 use Rattle.language.specs.Tables.{tableAt, decodeAt, standsAt, execute}
 use Rattle.language.specs.Statements.{outermost, Decodes, LayoutDecodes, Holds, MachineMeaning}
-use Rattle.language.proofs.LayoutPositions.{after-lt}
+use Rattle.language.proofs.LayoutPositions.{forward-add, after-lt}
 use Rattle.language.proofs.ReadingAccepted.{accepted-formed, accepted-used}
-use Rattle.language.proofs.LayoutDecoding.{formed-decodes}
+use Rattle.language.proofs.LayoutDecoding.{formed-decodes, formed-zeros}
 use Rattle.language.proofs.MachineSimulation.{Stands, run-meaning}
 
 -- ── the length of a table ───────────────────────────────────────────────────────────────────────
-
-forward-add : (n q : ℕ) → forward n q ≡ n + q
-forward-add zero q = omega arith
-forward-add (suc n) q = let h = forward-add n (suc q) in omega arith
 
 length-bytes : (b : List ℕ) (r : List ℤ) → length (byteCells b r) ≡ length b + length r
 length-bytes [] r = omega arith
@@ -80,8 +76,9 @@ used-least w = after-lt w 2
 pub layout-decodes : LayoutDecodes
 layout-decodes t w e =
     let u = accepted-used t w e in
-    let d = formed-decodes w (accepted-formed t w e) in
-    record { least = used-least w; most = u; whole = length-layout w u; decodes = d .0; ends = d .1 }
+    let g = accepted-formed t w e in
+    let d = formed-decodes w g in
+    record { least = used-least w; most = u; whole = length-layout w u; first = refl; decodes = d .0; ends = d .1; zeros = formed-zeros w g }
 
 -- what the simulation asks of a letter
 stored-stands : (texts : ℕ → Option Expr) (c : List ℤ) (u : List ℕ) (a : ℕ) (x : Option Expr) → Holds (tableAt c u a) x

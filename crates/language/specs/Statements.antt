@@ -1,19 +1,24 @@
 -- What is proved about the definitions, each statement with the name of its proof.
 use mathlib.Core.Path.{_≡_}
 use Prim.Native.Nat.{ℕ, suc, _≤_, _<_}
+use mathlib.Core.Bool.{Bool, true, false, cond, not}
 use mathlib.Core.Option.{Option, none, some}
-use mathlib.Core.List.{List}
+use mathlib.Core.List.{List, _∷_, _++_}
 use lib.IntN.{ℤ, pos}
 use lib.ListN.{length, getD, drop}
+use lib.Dec.{eqb}
 use Rattle.language.specs.declared.Table.{Table}
-use Rattle.language.specs.Limits.{maxCells, maxHeight}
+use Rattle.language.specs.declared.Refusal.{Refusal}
+use Rattle.language.specs.declared.Refusal.the-variants.{LongText, Unfinished}
+use Rattle.language.specs.Answers.{refusalNumber}
+use Rattle.language.specs.Limits.{maxText, maxCells, maxHeight}
 use Rattle.language.specs.Syntax.{Expr, close, semi, colon, operate, test, call, inner}
-use Rattle.language.specs.Reading.{accepted, read}
+use Rattle.language.specs.Reading.{Reading, refused, accepted, read}
 use Rattle.language.specs.Grammar.{Spells, Within}
 use Rattle.language.specs.Layout.{afterOperation, afterPredicate, afterCall, afterExpr, falseExit, codeStart, usedCells, layout}
 use Rattle.language.specs.Effects.{State, start}
 use Rattle.language.specs.Meaning.{Outcome, ended, stopped, meaning}
-use Rattle.language.specs.Machine.{Instruction, transfer, fail, operateAt, testAt, callAt, Decoded, last, code, decode}
+use Rattle.language.specs.Machine.{Instruction, transfer, fail, operateAt, testAt, callAt, Decoded, last, code, cell, decode}
 use Rattle.language.specs.Tables.{tableAt, execute}
 
 -- ── reading ─────────────────────────────────────────────────────────────────────────────────────
@@ -30,6 +35,45 @@ ReadingExact = (t : List ℕ) (w : Expr) → (read t ≡ accepted w → Keeps t 
 -- That expression is unique. proofs/Grammar `spelling-unique`
 abbrev pub SpellingUnique : Type 0
 SpellingUnique = (t : List ℕ) (w v : Expr) → Keeps t w → Keeps t v → w ≡ v
+
+-- ── the first fault ─────────────────────────────────────────────────────────────────────────────
+
+-- a beginning that no byte has spoilt: it is unfinished, or accepted
+abbrev pub NotYet : Reading → Type 0
+NotYet (refused r) = r ≡ Unfinished
+NotYet (accepted w) = Unit {0}
+
+-- A byte of the text t is at fault with r: every text of at most 256 bytes that agrees with t up to and with that byte is refused by r, and no
+-- beginning of t that ends before it is.
+pub record FaultAt (r : Refusal) (t : List ℕ) : Type 0 where
+  pub before : List ℕ
+  pub at : ℕ
+  pub rest : List ℕ
+  pub parts : t ≡ before ++ at ∷ rest
+  pub settled : (u : List ℕ) → length (before ++ at ∷ u) ≤ maxText → read (before ++ at ∷ u) ≡ refused r
+  pub unspoilt : (p s : List ℕ) → before ≡ p ++ s → NotYet (read p)
+
+-- a number that a byte is at fault with: not 2, which is the text's length, nor 7, which is its end
+abbrev pub ofByte : Refusal → Bool
+ofByte r = cond (eqb (refusalNumber r) 2) false (not (eqb (refusalNumber r) 7))
+
+-- "the number of its first fault": such a number refuses a text exactly when a byte is at fault with it. proofs/ReadingFaults `first-fault`
+abbrev pub FirstFault : Type 0
+FirstFault = (t : List ℕ) (r : Refusal) → ofByte r ≡ true → (read t ≡ refused r → FaultAt r t) × (length t ≤ maxText → FaultAt r t → read t ≡ refused r)
+
+-- the text has no byte at fault, and ends before its grammar does
+pub record EndsEarly (t : List ℕ) : Type 0 where
+  pub text : length t ≤ maxText
+  pub faultless : (r : Refusal) → ofByte r ≡ true → FaultAt r t → ⊥
+  pub incomplete : (w : Expr) → Keeps t w → ⊥
+
+-- "unfinished: the text ends before its grammar does": exactly then. proofs/ReadingFaults `unfinished-exactly`
+abbrev pub UnfinishedExactly : Type 0
+UnfinishedExactly = (t : List ℕ) → (read t ≡ refused Unfinished → EndsEarly t) × (EndsEarly t → read t ≡ refused Unfinished)
+
+-- "long text: over 256 bytes": exactly then. proofs/ReadingFaults `long-exactly`
+abbrev pub LongExactly : Type 0
+LongExactly = (t : List ℕ) → (read t ≡ refused LongText → maxText < length t) × (maxText < length t → read t ≡ refused LongText)
 
 -- ── layout ──────────────────────────────────────────────────────────────────────────────────────
 
@@ -55,17 +99,32 @@ Decodes at (call a e) h x c q = (at q ≡ code (callAt a (afterCall q) (falseExi
 Decodes at (inner f e) h x c q =
     Decodes at f q (afterExpr f q) (exitTo (falseExit e (afterExpr f q))) q × Decodes at e h x c (afterExpr f q)
 
--- a table has 3 to 250 used cells of 250, says its expression from cell 2 on, and ends at its last used cell
+-- A table has 3 to 250 used cells of 250, says its expression from cell 2 on, and ends at its last used cell. "Cell 1 holds 2000"; "The other cells
+-- of the letter's 250 are 0."
 pub record Lays (w : Expr) : Type 0 where
   pub least : 3 ≤ layout w .used
   pub most : layout w .used ≤ maxCells
   pub whole : length (layout w .cells) ≡ maxCells
+  pub first : cell (layout w) 1 ≡ pos 2000
   pub decodes : Decodes (decode (layout w)) w codeStart (usedCells w) outermost codeStart
   pub ends : decode (layout w) (usedCells w) ≡ last
+  pub zeros : (q : ℕ) → layout w .used < q → cell (layout w) q ≡ pos 0
 
 -- An accepted text's table does so. proofs/TablesMeaning `layout-decodes`
 abbrev pub LayoutDecodes : Type 0
 LayoutDecodes = (t : List ℕ) (w : Expr) → read t ≡ accepted w → Lays w
+
+-- ── what a run reads ────────────────────────────────────────────────────────────────────────────
+
+-- two tables have the same count, and the same cells from cell 2 to it
+pub record Alike (t v : Table) : Type 0 where
+  pub count : t .used ≡ v .used
+  pub within : (q : ℕ) → codeStart ≤ q → q ≤ t .used → cell t q ≡ cell v q
+
+-- "Cell 1 holds 2000 and no run reads it", nor a cell past the used ones: over tables so alike a run is the same. proofs/MachineReads `reads-used`
+abbrev pub ReadsUsed : Type 0
+ReadsUsed =
+    (c d : List ℤ) (u v : List ℕ) → ((a : ℕ) → Alike (tableAt c u a) (tableAt d v a)) → (a n : ℕ) (s : State) → execute c u a n s ≡ execute d v a n s
 
 -- ── the machine and the meaning ─────────────────────────────────────────────────────────────────
 
