@@ -1,5 +1,5 @@
 -- Demand 3 of the program: the contracts, chained, answer as the book does.
-use mathlib.Core.Path.{_≡_, refl, sym, ap, _∙_}
+use mathlib.Core.Path.{_≡_, refl, sym, ap, _∙_, subst}
 use Prim.Native.Nat.{ℕ, suc}
 use native.Mathlib.Omega.{arith}
 use mathlib.Core.List.{List, [], _∷_}
@@ -13,7 +13,7 @@ use Rattle.book.specs.Replies.{Reply, reported}
 use Rattle.book.specs.Store.{freshStore, storeCall}
 use Rattle.book.specs.History as Definitions
 use Rattle.book.specs.History.{answers, after, storeAnswers, standing, readText}
-use Rattle.book.specs.Statements.{isNone, runAfter, standingTexts}
+use Rattle.book.specs.Statements.{Never, isNone, runAfter, standingTexts}
 use Rattle.book.proofs.History.{answers-agree}
 use Rattle.book.proofs.HistoryStanding as Book
 use Rattle.engine.specs.declared.Store.{Store}
@@ -28,9 +28,20 @@ chained s (x ∷ ss) h =
     let e = chained (x .store) ss (h .1) ∙ ap (λ z. storeAnswers (z .kept) (callsOf ss)) (h .0) in
     λ i. h .0 i .reply ∷ e i
 
--- Every session answers as the book does.
+-- from the fresh store
+chained-fresh : (s : Store) (ss : List Step) → stored s ≡ freshStore → Promised s ss → repliesOf ss ≡ storeAnswers freshStore (callsOf ss)
+chained-fresh s ss e h = chained s ss h ∙ ap (λ z. storeAnswers z (callsOf ss)) e
+
+-- Every session answers as the book does, and neither 13 nor 29.
 pub demand-3 : Demand3
-demand-3 s ss e h = chained s ss h ∙ ap (λ z. storeAnswers z (callsOf ss)) e ∙ answers-agree (callsOf ss)
+demand-3 s ss e h =
+    let q = chained-fresh s ss e h in
+    let (sound, undamaged) = Book.never-damaged (callsOf ss) in
+    record {
+      answers = q ∙ answers-agree (callsOf ss);
+      sound = subst (Never 13) (sym q) sound;
+      undamaged = subst (Never 29) (sym q) undamaged;
+    }
 
 -- ── a run that follows ──────────────────────────────────────────────────────────────────────────
 
@@ -42,7 +53,7 @@ ended s (x ∷ ss) h = ended (x .store) ss (h .1) ∙ ap (λ z. Definitions.stor
 
 module _ (s : Store) (ss : List Step) (x : Run) (y : Step) (f : Follows s ss x y) where
   replies : repliesOf ss ≡ storeAnswers freshStore (callsOf ss)
-  replies = chained s ss (f .session) ∙ ap (λ z. storeAnswers z (callsOf ss)) (f .fresh)
+  replies = chained-fresh s ss (f .fresh) (f .session)
 
   final : stored (storeAfter s ss) ≡ Definitions.storeAfter freshStore (callsOf ss)
   final = ended s ss (f .session) ∙ ap (λ z. Definitions.storeAfter z (callsOf ss)) (f .fresh)

@@ -1,7 +1,8 @@
 -- Demand 3: for every list of define, withdraw and run calls from a fresh store, refused ones included, each answer is the book's.
 --
 -- A session is a list of calls of `Store::define`, `Store::withdraw` and `Store::run` with what each returned. `Promised` asks of each step the very
--- equation that the function's `ensures` in src/lib.rt states, over the store that the step before returned, and nothing else.
+-- equation that the function's `ensures` in src/lib.rt states, over the store that the step before returned, and nothing else. src/steps.rt proves,
+-- for every argument, that a call of each function is such a step.
 use mathlib.Core.Path.{_≡_}
 use Prim.Native.Nat.{ℕ, suc}
 use mathlib.Core.Option.{Option, some}
@@ -17,7 +18,7 @@ use Rattle.book.specs.Replies.{Reply, leaves, reported}
 use Rattle.book.specs.Book.{freshBook}
 use Rattle.book.specs.Store.{freshStore, storeCall}
 use Rattle.book.specs.History.{bookAnswers, standing, readText}
-use Rattle.book.specs.Statements.{Admissible, isNone}
+use Rattle.book.specs.Statements.{Never, Admissible, isNone}
 use Rattle.engine.specs.declared.Store.{Store}
 use Rattle.engine.specs.declared.Told.{Told}
 use Rattle.engine.specs.declared.Answer.{Answer}
@@ -33,9 +34,9 @@ pub record Step : Type 0 where
 abbrev pub tellsOf : Call → Told → Step
 tellsOf c r = record { call = c; store = r .store; reply = told r c .reply }
 
--- a run x that returned r and left the list places p and the output o
-abbrev pub runOf : Run → Answer → List ℤ → List ℕ → Step
-runOf x r p o = record { call = runs x; store = r .store; reply = answered r p o .reply }
+-- a run c that returned r and left the list places p and the output o
+abbrev pub runOf : Call → Answer → List ℤ → List ℕ → Step
+runOf c r p o = record { call = c; store = r .store; reply = answered r p o .reply }
 
 -- the contracts of the three functions, and the first store
 abbrev pub Promised : Store → List Step → Type 0
@@ -50,9 +51,15 @@ callsOf ss = map (λ (x : Step). x .call) ss
 abbrev pub repliesOf : List Step → List Reply
 repliesOf ss = map (λ (x : Step). x .reply) ss
 
+-- Each answer is the book's. "On a store from demand 3's calls, 13 and 29 do not occur."
+pub record ByTheBook (ss : List Step) : Type 0 where
+  pub answers : repliesOf ss ≡ bookAnswers freshBook (callsOf ss)
+  pub sound : Never 13 (repliesOf ss)
+  pub undamaged : Never 29 (repliesOf ss)
+
 -- THE CLAIM. proofs/Demand3 `demand-3`
 abbrev pub Demand3 : Type 0
-Demand3 = (s : Store) (ss : List Step) → stored s ≡ freshStore → Promised s ss → repliesOf ss ≡ bookAnswers freshBook (callsOf ss)
+Demand3 = (s : Store) (ss : List Step) → stored s ≡ freshStore → Promised s ss → ByTheBook ss
 
 -- ── two readable consequences ───────────────────────────────────────────────────────────────────
 

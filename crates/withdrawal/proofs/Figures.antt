@@ -59,11 +59,11 @@ module _ (s : Store) (p q : Told) (first : Answer) (l : List ℤ) (o : List ℕ)
     (l″ : List ℤ) (o″ : List ℕ) where
   abbrev steps : List Step
   steps =
-      tellsOf (defines 112 (bytes "('/5';)")) p ∷ tellsOf (defines 113 (bytes "(p;)")) q ∷ runOf (run 113) first l o ∷ tellsOf (withdraws 112) x
-      ∷ runOf (run 113) second l′ o′ ∷ runOf (run 112) third l″ o″ ∷ []
+      tellsOf (defines 112 (bytes "('/5';)")) p ∷ tellsOf (defines 113 (bytes "(p;)")) q ∷ runOf (runs (run 113)) first l o ∷ tellsOf (withdraws 112) x
+      ∷ runOf (runs (run 113)) second l′ o′ ∷ runOf (runs (run 112)) third l″ o″ ∷ []
 
   pub shown : stored s ≡ freshStore → Promised s steps
       → _≡_ {A = Numbers} (record { before = first .report .number; paid = getD l 0 (pos 0); after = second .report .number; withdrawn = third .report .number })
       (record { before = 0; paid = pos 5; after = 27; withdrawn = 10 })
   unfolding calls
-  shown e h = ap figures (demand-3 s steps e h) ∙ book
+  shown e h = ap figures (demand-3 s steps e h .answers) ∙ book

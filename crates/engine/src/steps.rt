@@ -1,0 +1,47 @@
+// The tie between demand 3 and the contracts. Each function calls one function of `Store`, with any arguments, and its step is one that `Promised`
+// asks for: a contract of `Store` that promised less would not prove it. Nothing calls them.
+ghost use mathlib.Core.Path.{_≡_};
+ghost use mathlib.Core.List.{[], _∷_};
+ghost use Rattle.book.specs.Calls.{defines, withdraws, running};
+ghost use Rattle.book.specs.Store.{freshStore};
+ghost use Rattle.engine.specs.Stored.{stored};
+ghost use Rattle.engine.specs.Demand3.{Promised, tellsOf, runOf};
+use super::Answer;
+use super::Store;
+use super::Told;
+
+// What a session starts from.
+fn fresh() -> Store
+    ensures { λ r. ⌜ stored r ≡ freshStore ⌝ }
+{
+    Store::fresh()
+}
+
+// A step that defines.
+fn define(s: Store, letter: u8, text: &[u8]) -> Told
+    ensures { λ r. ⌜ Promised s (tellsOf (defines letter (now (text .entry))) r ∷ []) ⌝ }
+{
+    s.define(letter, text)
+}
+
+// A step that withdraws.
+fn withdraw(s: Store, letter: u8) -> Told
+    ensures { λ r. ⌜ Promised s (tellsOf (withdraws letter) r ∷ []) ⌝ }
+{
+    s.withdraw(letter)
+}
+
+// A step that runs.
+fn run(
+    s: Store,
+    letter: u8,
+    allowance: u32,
+    inputs: &[i32],
+    list: &mut [i32],
+    output: &mut [u8],
+) -> Answer
+    ensures { λ r. ⌜ Promised s
+        (runOf (running letter allowance (now (inputs .entry)) (now (list .entry)) (now (output .entry))) r (now (list .exit)) (now (output .exit)) ∷ []) ⌝ }
+{
+    s.run(letter, allowance, inputs, list, output)
+}
