@@ -31,7 +31,8 @@
  *   26  paper out        the bytes of a print, `O` or `X` do not all fit
  *   27  no text          call of a cleared letter
  *   28  deep calls       a 101st nested call
- *   29  damaged          the due cell is not one of a linked table
+ *   29  damaged          the due cell, or a cell of the mark there, breaks the form that a table's cells have (document 01 lists the clauses); a table
+ *                        that keeps the form is obeyed, whether or not a text links to it
  */
 
 /* 0 where the text links, else the number of its refusal. Every text of every length has an answer. */
