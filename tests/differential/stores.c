@@ -1,32 +1,16 @@
-/* Compares runs on damaged stores: the reference's table machine against the
- * engine behind door.h.
+/* Compares calls on damaged stores: the reference's store against the engine
+ * behind door.h. Every figure, list place, output byte, cell, count and variable.
  *
- *     stores [SECONDS] [FIRST_SEED]
+ *     stores [ROUNDS [FIRST_SEED]]      see work.h
  *
- * Built with the reference, texts.c and a library that has rec_run:
- *
- *     cc -std=c11 -O2 stores.c texts.c ../reference/rec.c LIBRARY -o stores
- *
- * Exit 0: no difference. Exit 1: a difference, shown with its seed. Running with
- * 0 seconds and that seed repeats it. */
-#include <signal.h>
+ * Built with calls.c, work.c, texts.c, the reference and libdoor.a. */
 #include <stdio.h>
-#include <stdlib.h>
 #include <string.h>
-#include <time.h>
 
-#include "../reference/rec.h"
-#include "door.h"
-#include "texts.h"
+#include "calls.h"
+#include "work.h"
 
-enum {
-    LETTERS = 6,
-    LIST_ROOM = 160,
-    OUTPUT_ROOM = 5300,
-    INPUT_ROOM = 100,
-    FIGURES = 5,
-    TRIAL = 20000
-};
+enum { ROUNDS = 25000, LETTERS = 6, TRIAL = 20000 };
 
 /* ---- damage ------------------------------------------------------------ */
 
@@ -291,125 +275,330 @@ static void make_store(struct random *r, struct rec_store *store)
         store->variables[i] = chance(r, 40) ? 0 : random_value(r);
 }
 
-/* ---- one comparison ---------------------------------------------------- */
+/* ---- what was met ------------------------------------------------------ */
 
-struct side {
-    uint32_t number;
-    uint32_t figures[FIGURES + 3];
-    int32_t variables[REC_VARIABLES + 2];
-    int32_t list[LIST_ROOM];
-    uint8_t output[OUTPUT_ROOM];
-};
+static struct tally tally;
 
-struct call {
-    uint8_t letter;
-    uint32_t allowance;
-    int32_t input[INPUT_ROOM];
-    size_t input_length;
-    size_t list_length;
-    size_t output_length;
-};
+/* Each number of document 01 but 14, which only a desk line has. */
+static const struct must must = {
+    {[DEFINE] = {0, 1, 2, 3, 4, 5, 6, 7, 8, 9, 13, MUST_END},
+     [WITHDRAW] = {0, 1, 10, 13, MUST_END},
+     [RUN] = {0, 1, 10, 11, 12, 13, 20, 21, 22, 23, 24, 25, 26, 27, 28, 29, MUST_END}}};
 
-static unsigned long long runs, numbers[REC_NUMBERS], clauses[REC_CLAUSES];
+/* What the directed cases give. */
+static const struct must must_directed = {
+    {[DEFINE] = {0, 1, 2, 3, 7, 13, MUST_END},
+     [WITHDRAW] = {0, 1, 10, 13, MUST_END},
+     [RUN] = {0, 1, 10, 11, 12, 13, 20, 29, MUST_END}}};
 
-static void soil(struct random *r, struct side *side, const struct rec_store *store)
+/* Each clause of 29 but the first, a due cell outside 2 to used. No run has that:
+ * cell 2 is inside, for 13 refuses counts of 1 and 2; a mark's own cells end at
+ * used - 2, so the cell after it is inside; a transfer or false outside damages
+ * the mark before it is taken. */
+static bool clauses_met(unsigned long long least)
 {
-    memset(side, 0, sizeof *side);
-    for (size_t i = 0; i < FIGURES + 3; i++)
-        side->figures[i] = random_bits(r);
-    for (size_t i = 0; i < REC_VARIABLES + 2; i++)
-        side->variables[i] = i < REC_VARIABLES ? store->variables[i] : 4711;
-    for (size_t i = 0; i < LIST_ROOM; i++)
-        side->list[i] = (int32_t)random_bits(r);
-    for (size_t i = 0; i < OUTPUT_ROOM; i++)
-        side->output[i] = (uint8_t)random_bits(r);
-}
-
-static struct rec_answer run_reference(const struct rec_store *store,
-                                       const struct call *call, uint32_t allowance,
-                                       struct side *side)
-{
-    struct rec_loan loan = {call->input, call->input_length, side->list, call->list_length,
-                            side->output, call->output_length};
-    struct rec_answer a = rec_store_run(store->cells, store->used, side->variables,
-                                        call->letter, allowance, &loan);
-    side->number = a.number;
-    side->figures[0] = a.truth;
-    side->figures[1] = a.steps;
-    side->figures[2] = a.height;
-    side->figures[3] = a.taken;
-    side->figures[4] = a.written;
-    return a;
-}
-
-static void run_door(const struct rec_store *store, const struct call *call,
-                     struct side *side)
-{
-    /* the reference keeps variable 0 last, the engine first */
-    int32_t vars[REC_VARIABLES];
-    size_t figures[FIGURES];
-    for (size_t i = 0; i < REC_VARIABLES; i++)
-        vars[(i + 1) % REC_VARIABLES] = side->variables[i];
-    side->number = rec_run(store->cells, store->used, vars, call->letter, call->allowance, call->input,
-                           call->input_length, side->list, call->list_length, side->output,
-                           call->output_length, figures);
-    for (size_t i = 0; i < REC_VARIABLES; i++)
-        side->variables[i] = vars[(i + 1) % REC_VARIABLES];
-    for (size_t i = 0; i < FIGURES; i++)
-        side->figures[i] = (uint32_t)figures[i];
-}
-
-static bool same(const char *what, long long index, long long expected, long long got)
-{
-    if (expected != got)
-        printf("  %s %lld: expected %lld, got %lld\n", what, index, expected, got);
-    return expected == got;
-}
-
-/* Compares everything, also what lies behind the lent places. */
-static bool same_sides(const struct side *a, const struct side *b)
-{
-    bool good = same("number", 0, a->number, b->number);
-    for (size_t i = 0; i < FIGURES + 3; i++)
-        good &= same("figure", (long long)i, a->figures[i], b->figures[i]);
-    for (size_t i = 0; i < REC_VARIABLES + 2; i++)
-        good &= same("variable", (long long)i + 1, a->variables[i], b->variables[i]);
-    for (size_t i = 0; i < LIST_ROOM && good; i++)
-        good &= same("list place", (long long)i, a->list[i], b->list[i]);
-    for (size_t i = 0; i < OUTPUT_ROOM && good; i++)
-        good &= same("output byte", (long long)i, a->output[i], b->output[i]);
+    static const char *const words[REC_CLAUSES] = {
+        "", "due cell outside", "last not 1", "last but one not 0", "holds 0",
+        "transfer outside", "no code", "mark past used - 2", "false outside", "digit", "n",
+        "order", "constant", "print length", "print byte"};
+    bool good = same("runs 29 by a due cell outside", 0, 0,
+                     (long long)tally.clauses[REC_CELL_OUTSIDE]);
+    for (size_t i = REC_CELL_OUTSIDE + 1; i < REC_CLAUSES; i++)
+        good &= met(tally.clauses[i], least, "run: 29 by %s", words[i]);
     return good;
 }
 
-/* High allowances only for runs that end soon of themselves. */
-static uint32_t choose_allowance(struct random *r, const struct rec_store *store,
-                                 const struct call *call)
+static bool counts(bool directed, bool full)
 {
-    static struct side trial;
-    struct rec_answer a;
-    memcpy(trial.variables, store->variables, sizeof store->variables);
-    a = run_reference(store, call, TRIAL, &trial);
-    switch (below(r, 8)) {
-    case 0:
-        return a.steps;
-    case 1:
-        return a.steps > 0 ? a.steps - 1 : 0;
-    case 2:
-        return below(r, a.steps + 2);
-    case 3:
-        return a.number == REC_SPENT ? TRIAL : UINT32_MAX - below(r, 2);
-    case 4:
-        return a.number == REC_SPENT ? 3 : (uint32_t)1 << 31;
-    default:
-        return below(r, 1000);
+    bool good;
+    printf("%s: %llu calls\n", directed ? "directed cases" : "rounds", tally.calls);
+    if (directed) {
+        good = numbers_met(&tally, &must_directed, 5);
+        good &= clauses_met(5);
+    } else {
+        good = numbers_met(&tally, &must, full ? 30 : 0);
+        good &= clauses_met(full ? 30 : 0);
+        good &= runs_met(&tally, full ? 50 : 0);
     }
+    memset(&tally, 0, sizeof tally);
+    return good;
 }
 
-static void choose_call(struct random *r, const struct rec_store *store, struct call *call)
+/* ---- one comparison ---------------------------------------------------- */
+
+static void show_store(const struct rec_store *store)
+{
+    for (size_t letter = 0; letter < REC_LETTERS; letter++) {
+        size_t used = store->used[letter];
+        if (used == 0)
+            continue;
+        printf("  table of %c, used %zu:", (char)('a' + letter), used);
+        for (size_t i = 0; i < used && i < REC_CELLS; i++)
+            printf("%s%ld", i ? "," : " ", (long)store->cells[letter * REC_CELLS + i]);
+        putchar('\n');
+    }
+    printf("  variables 1 to 9 and 0:");
+    for (size_t i = 0; i < REC_VARIABLES; i++)
+        printf(" %ld", (long)store->variables[i]);
+    putchar('\n');
+}
+
+/* Makes the call on both sides. The store is the reference's afterwards, and what
+ * the reference gave is in `expected`. */
+static bool compare(struct random *r, struct rec_store *store, const struct call *call,
+                    struct side *expected)
+{
+    static struct side got;
+    static struct rec_store before, other;
+    bool good;
+    soil(r, expected);
+    got = *expected;
+    before = *store;
+    other = *store;
+    call_store(store, call, expected);
+    call_door(&other, call, &got);
+    good = same_sides(expected, &got);
+    good &= same_variables(store->variables, other.variables);
+    good &= same_tables(store, &other);
+    if (!good) {
+        show_call(call);
+        show_store(&before);
+    }
+    count_call(&tally, call, expected);
+    return good;
+}
+
+/* ---- directed cases ---------------------------------------------------- */
+
+/* A call, and the number that document 01 gives it. */
+static bool expect(struct rec_store *store, const struct call *call, uint32_t number,
+                   uint32_t clause)
+{
+    static struct side side;
+    struct random r;
+    bool good;
+    random_seed(&r, 1);
+    good = compare(&r, store, call, &side);
+    good &= same("the reference's number", 0, number, side.number);
+    if (number == REC_DAMAGED)
+        good &= same("the reference's clause of 29", 0, clause, side.clause);
+    return good;
+}
+
+static void call_words(struct call *call, enum call_kind kind, uint8_t letter, const char *words)
+{
+    memset(call, 0, sizeof *call);
+    call->kind = kind;
+    call->letter = letter;
+    text_add(&call->text, words);
+    call->allowance = 1000;
+    call->list_length = REC_LIST;
+    call->output_length = 100;
+}
+
+/* Every call on a store like this one: `bad`, or as good as it was. */
+static bool every_call(const struct rec_store *like, bool bad)
+{
+    static const struct {
+        enum call_kind kind;
+        uint8_t letter;
+        const char *words;
+        uint32_t number; /* on a good store */
+    } calls[] = {{DEFINE, 'b', "(;)", 0},   {DEFINE, 'z', "(I;)", 0},  {DEFINE, 'b', "(", 7},
+                 {DEFINE, 'B', "()", 1},    {DEFINE, '{', "x", 1},     {WITHDRAW, 'a', "", 0},
+                 {WITHDRAW, 'z', "", 10},   {WITHDRAW, '`', "", 1},    {RUN, 'a', "", 0},
+                 {RUN, 'z', "", 10},        {RUN, 0, "", 1}};
+    static struct rec_store store;
+    struct call call;
+    bool good = true;
+    for (size_t i = 0; i < sizeof calls / sizeof calls[0] && good; i++) {
+        uint32_t number = calls[i].number;
+        if (!bad && like->used['z' - 'a'] != 0 && number == REC_NOT_STANDING)
+            continue;
+        store = *like;
+        call_words(&call, calls[i].kind, calls[i].letter, calls[i].words);
+        good &= expect(&store, &call, bad ? REC_BAD_STORE : number, REC_SOUND);
+        if (!good || calls[i].kind != RUN)
+            continue;
+        store = *like; /* 13 comes before 11 and 12, and 11 before 12 */
+        call.list_length = 63;
+        if (number == 0)
+            number = REC_BAD_LIST;
+        good &= expect(&store, &call, bad ? REC_BAD_STORE : number, REC_SOUND);
+        call.input_length = 1;
+        call.input[0] = 1000000000;
+        if (number == REC_BAD_LIST)
+            number = REC_BAD_INPUT;
+        good &= expect(&store, &call, bad ? REC_BAD_STORE : number, REC_SOUND);
+    }
+    return good;
+}
+
+/* Every count and variable, just inside and outside of what 13 allows. */
+static bool bad_stores(void)
+{
+    static const size_t odd[] = {1, 2, 251, 252, 256, 259, 2000, (size_t)1 << 31, (size_t)1 << 32,
+                                 ((size_t)1 << 32) + 3, SIZE_MAX / 2, SIZE_MAX - 249, SIZE_MAX};
+    static const size_t even[] = {0, 3, 4, 249, 250};
+    static const int32_t outside[] = {1000000000, -1000000000, INT32_MAX, INT32_MIN};
+    static const int32_t inside[] = {999999999, -999999999};
+    static struct rec_store sound, store;
+    bool good = true;
+    rec_store_fresh(&sound);
+    rec_store_define(&sound, 'a', (const uint8_t *)"('/5'S0S1;)", 11);
+    good &= every_call(&sound, false);
+    for (size_t letter = 0; letter < REC_LETTERS && good; letter++) {
+        for (size_t i = 0; i < sizeof odd / sizeof odd[0] && good; i++) {
+            store = sound;
+            store.used[letter] = odd[i];
+            good &= every_call(&store, true);
+        }
+        for (size_t i = 0; i < sizeof even / sizeof even[0] && good && letter > 0; i++) {
+            store = sound;
+            store.used[letter] = even[i];
+            good &= every_call(&store, false);
+        }
+    }
+    for (size_t k = 0; k < REC_VARIABLES && good; k++) {
+        for (size_t i = 0; i < 4 && good; i++) {
+            store = sound;
+            store.variables[k] = outside[i];
+            good &= every_call(&store, true);
+        }
+        for (size_t i = 0; i < 2 && good; i++) {
+            store = sound;
+            store.variables[k] = inside[i];
+            good &= every_call(&store, false);
+        }
+    }
+    return good;
+}
+
+/* Tables by hand, with what document 01 says of their first damaged cell. */
+static bool bad_tables(void)
+{
+    static const struct {
+        enum rec_clause clause;
+        size_t at; /* the damaged cell */
+        size_t used;
+        int32_t cells[10];
+    } tables[] = {
+        {REC_SOUND, 0, 3, {2000, 0, 1}},
+        {REC_SOUND, 0, 3, {0, 0, 1}},
+        {REC_SOUND, 0, 4, {2000, 4, 0, 1}},
+        {REC_LAST_NOT_1, 4, 4, {2000, 4, 0, 0}},
+        {REC_LAST_NOT_1, 4, 4, {2000, 4, 0, 2}},
+        {REC_LAST_NOT_1, 4, 4, {2000, 4, 0, -1}},
+        {REC_LAST_BUT_ONE_NOT_0, 2, 3, {2000, 1, 1}},
+        {REC_LAST_BUT_ONE_NOT_0, 2, 3, {2000, -88, 1}},
+        {REC_LAST_BUT_ONE_NOT_0, 3, 4, {2000, 3, 4, 1}},
+        {REC_HOLDS_0, 2, 4, {2000, 0, 0, 1}},
+        {REC_HOLDS_0, 3, 5, {2000, -88, 0, 0, 1}},
+        {REC_TRANSFER_OUTSIDE, 2, 4, {2000, 5, 0, 1}},
+        {REC_TRANSFER_OUTSIDE, 2, 4, {2000, 1, 0, 1}},
+        {REC_TRANSFER_OUTSIDE, 2, 4, {2000, INT32_MAX, 0, 1}},
+        {REC_NO_CODE, 2, 4, {2000, -1, 0, 1}},
+        {REC_NO_CODE, 2, 4, {2000, -66, 0, 1}},
+        {REC_NO_CODE, 2, 4, {2000, -96, 0, 1}},
+        {REC_NO_CODE, 2, 4, {2000, -123, 0, 1}},
+        {REC_NO_CODE, 2, 4, {2000, -174, 0, 1}},
+        {REC_NO_CODE, 2, 4, {2000, -321, 0, 1}},
+        {REC_NO_CODE, 2, 4, {2000, INT32_MIN, 0, 1}},
+        {REC_MARK_TOO_LONG, 2, 4, {2000, -70, 0, 1}},
+        {REC_MARK_TOO_LONG, 2, 4, {2000, -78, 0, 1}},
+        {REC_MARK_TOO_LONG, 2, 4, {2000, -97, 0, 1}},
+        {REC_MARK_TOO_LONG, 2, 6, {2000, -36, -1, 0, 0, 1}},
+        {REC_MARK_TOO_LONG, 2, 4, {2000, -175, 0, 1}},
+        {REC_MARK_TOO_LONG, 2, 4, {2000, -167, 0, 1}},
+        {REC_MARK_TOO_LONG, 2, 5, {2000, -167, 1, 0, 1}},
+        {REC_MARK_TOO_LONG, 2, 5, {2000, -167, INT32_MAX, 0, 1}},
+        {REC_FALSE_OUTSIDE, 2, 5, {2000, -78, 6, 0, 1}},
+        {REC_FALSE_OUTSIDE, 2, 5, {2000, -78, 1, 0, 1}},
+        {REC_FALSE_OUTSIDE, 2, 5, {2000, -97, 0, 0, 1}},
+        {REC_FALSE_OUTSIDE, 2, 7, {2000, -36, -1, 0, 8, 0, 1}},
+        {REC_FALSE_OUTSIDE, 2, 7, {2000, -36, -1, 0, 1, 0, 1}},
+        {REC_BAD_DIGIT, 2, 5, {2000, -70, 0, 0, 1}},
+        {REC_BAD_DIGIT, 2, 5, {2000, -70, 11, 0, 1}},
+        {REC_BAD_DIGIT, 2, 5, {2000, -83, -1, 0, 1}},
+        {REC_SOUND, 0, 5, {2000, -70, 10, 0, 1}},
+        {REC_BAD_N, 2, 7, {2000, -36, 0, 0, 7, 0, 1}},
+        {REC_BAD_N, 2, 7, {2000, -36, 1, 0, 7, 0, 1}},
+        {REC_BAD_N, 2, 7, {2000, -36, -10000, 0, 7, 0, 1}},
+        {REC_BAD_N, 2, 7, {2000, -36, INT32_MIN, 0, 7, 0, 1}},
+        {REC_SOUND, 0, 7, {2000, -36, -9999, 15, 7, 0, 1}},
+        {REC_BAD_ORDER, 2, 7, {2000, -36, -1, -1, 7, 0, 1}},
+        {REC_BAD_ORDER, 2, 7, {2000, -36, -1, 16, 7, 0, 1}},
+        {REC_BAD_VALUE, 2, 5, {2000, -175, 1000000000, 0, 1}},
+        {REC_BAD_VALUE, 2, 5, {2000, -175, -1000000000, 0, 1}},
+        {REC_SOUND, 0, 5, {2000, -175, -999999999, 0, 1}},
+        {REC_BAD_LENGTH, 2, 5, {2000, -167, -1, 0, 1}},
+        {REC_BAD_LENGTH, 2, 5, {2000, -167, INT32_MIN, 0, 1}},
+        {REC_SOUND, 0, 5, {2000, -167, 0, 0, 1}},
+        {REC_BAD_BYTE, 2, 6, {2000, -167, 1, 31, 0, 1}},
+        {REC_BAD_BYTE, 2, 6, {2000, -167, 1, 39, 0, 1}},
+        {REC_BAD_BYTE, 2, 6, {2000, -167, 1, 127, 0, 1}},
+        {REC_BAD_BYTE, 2, 6, {2000, -167, 1, 10, 0, 1}},
+        {REC_BAD_BYTE, 2, 6, {2000, -167, 1, 288, 0, 1}},
+        {REC_SOUND, 0, 6, {2000, -167, 1, 126, 0, 1}}};
+    static struct rec_store store;
+    struct call call;
+    bool good = true;
+    for (size_t i = 0; i < sizeof tables / sizeof tables[0] && good; i++)
+        for (uint8_t letter = 'a'; letter <= 'z' && good; letter = (uint8_t)(letter + 25)) {
+            bool sound = tables[i].clause == REC_SOUND;
+            rec_store_fresh(&store);
+            memcpy(table_of(&store, (size_t)(letter - 'a')), tables[i].cells,
+                   sizeof tables[i].cells);
+            store.used[letter - 'a'] = tables[i].used;
+            call_words(&call, RUN, letter, "");
+            good &= expect(&store, &call, sound ? 0 : REC_DAMAGED, tables[i].clause);
+            call.allowance = 0; /* 29 comes before 20 */
+            good &= expect(&store, &call, tables[i].at == 2 ? REC_DAMAGED : REC_SPENT,
+                           tables[i].clause);
+        }
+    return good;
+}
+
+/* A define and a withdraw of a letter whose table is all damage: every cell goes. */
+static bool whole_tables(void)
+{
+    static struct rec_store store;
+    struct call call;
+    bool good = true;
+    for (size_t letter = 0; letter < REC_LETTERS && good; letter++) {
+        for (size_t i = 0; i < REC_LETTERS * REC_CELLS; i++)
+            store.cells[i] = (int32_t)i - 3000;
+        for (size_t i = 0; i < REC_LETTERS; i++)
+            store.used[i] = i == letter ? 3 : i % 2 ? 0 : 250;
+        call_words(&call, DEFINE, (uint8_t)('a' + letter), "(N)");
+        good &= expect(&store, &call, 0, REC_SOUND);
+        good &= same("used", 0, 5, (long long)store.used[letter]);
+        call_words(&call, DEFINE, (uint8_t)('a' + letter), "(N))");
+        good &= expect(&store, &call, REC_STRAY_MARK, REC_SOUND);
+        call_words(&call, DEFINE, (uint8_t)('a' + letter), "(N)");
+        text_fill(&call.text, "\n", 254);
+        good &= expect(&store, &call, REC_LONG_TEXT, REC_SOUND);
+        call_words(&call, WITHDRAW, (uint8_t)('a' + letter), "");
+        good &= expect(&store, &call, 0, REC_SOUND);
+        good &= same("used", 0, 0, (long long)store.used[letter]);
+        good &= expect(&store, &call, REC_NOT_STANDING, REC_SOUND);
+    }
+    return good;
+}
+
+static bool directed(void)
+{
+    return bad_stores() && bad_tables() && whole_tables();
+}
+
+/* ---- rounds ------------------------------------------------------------ */
+
+static void choose_run(struct random *r, const struct rec_store *store, struct call *call)
 {
     static const size_t lists[] = {0, 1, 63, 65, 100};
     static const size_t outputs[] = {0, 1, 2, 11, 12, 13, 24, 25, 100, 4095, 4096, 5200};
-    call->letter = chance(r, 96) ? (uint8_t)('a' + below(r, LETTERS)) : (uint8_t)below(r, 256);
+    static struct rec_store trial;
+    static struct side ended;
     call->input_length = below(r, chance(r, 85) ? 8 : INPUT_ROOM);
     for (size_t i = 0; i < call->input_length; i++)
         call->input[i] = random_value(r);
@@ -418,64 +607,36 @@ static void choose_call(struct random *r, const struct rec_store *store, struct 
             (int32_t[]){1000000000, -1000000000, INT32_MIN, INT32_MAX}[below(r, 4)];
     call->list_length = chance(r, 96) ? REC_LIST : lists[below(r, 5)];
     call->output_length = chance(r, 50) ? 4096 : outputs[below(r, 12)];
-    call->allowance = choose_allowance(r, store, call);
+    trial = *store;
+    call->allowance = TRIAL;
+    call_store(&trial, call, &ended);
+    call->allowance = suit_allowance(r, &ended, TRIAL);
 }
 
-static void show_letter(const struct rec_store *store, size_t letter)
+static void choose_call(struct random *r, const struct rec_store *store, struct call *call)
 {
-    size_t used = store->used[letter];
-    printf("  table of %c, used %zu:", (char)('a' + letter), used);
-    for (size_t i = 0; i < used && i < REC_CELLS; i++)
-        printf("%s%ld", i ? "," : " ", (long)store->cells[letter * REC_CELLS + i]);
-    putchar('\n');
+    uint32_t pick = below(r, 100);
+    call->kind = pick < 70 ? RUN : pick < 88 ? DEFINE : WITHDRAW;
+    call->letter = chance(r, 96) ? (uint8_t)('a' + below(r, LETTERS)) : (uint8_t)below(r, 256);
+    text_clear(&call->text);
+    if (call->kind == RUN)
+        choose_run(r, store, call);
+    if (call->kind == DEFINE)
+        text_hard(r, (const uint8_t *)"abcdef", LETTERS, &call->text);
 }
 
-static void show_call(const struct rec_store *store, const struct call *call)
-{
-    printf("  letter %u, allowance %lu, %zu inputs, list %zu, output %zu\n",
-           (unsigned)call->letter, (unsigned long)call->allowance, call->input_length,
-           call->list_length, call->output_length);
-    for (size_t i = 0; i < LETTERS; i++)
-        show_letter(store, i);
-}
-
-static bool compare(struct random *r, struct rec_store *store, const struct call *call)
-{
-    static struct side expected, got;
-    static struct rec_store before;
-    struct rec_answer a;
-    bool good;
-    soil(r, &expected, store);
-    got = expected;
-    before = *store;
-    a = run_reference(store, call, call->allowance, &expected);
-    run_door(store, call, &got);
-    good = same_sides(&expected, &got);
-    if (memcmp(before.cells, store->cells, sizeof before.cells) != 0
-        || memcmp(before.used, store->used, sizeof before.used) != 0) {
-        puts("  a run changed the tables");
-        good = false;
-    }
-    if (!good)
-        show_call(&before, call);
-    memcpy(store->variables, expected.variables, sizeof store->variables);
-    runs++;
-    numbers[a.number]++;
-    clauses[a.clause]++;
-    return good;
-}
-
-static bool try_seed(uint64_t seed)
+static bool round_of(uint64_t seed)
 {
     static struct rec_store store;
+    static struct side expected;
+    static struct call call;
     struct random r;
-    struct call call;
     random_seed(&r, seed);
     make_store(&r, &store);
     damage_store(&r, &store);
     for (int i = between(&r, 1, 8); i > 0; i--) {
         choose_call(&r, &store, &call);
-        if (!compare(&r, &store, &call))
+        if (!compare(&r, &store, &call, &expected))
             return false;
         if (chance(&r, 30))
             damage_once(&r, &store);
@@ -483,48 +644,8 @@ static bool try_seed(uint64_t seed)
     return true;
 }
 
-static uint64_t seed;
-
-/* A crash behind the door counts as a difference. */
-static void crashed(int number)
-{
-    printf("DIFFERENCE at seed %llu: signal %d\n", (unsigned long long)seed, number);
-    fflush(stdout);
-    _Exit(1);
-}
-
-static void report(uint64_t first, uint64_t last)
-{
-    static const char *const words[REC_CLAUSES] = {
-        "", "due cell outside", "last not 1", "last but one not 0", "holds 0",
-        "transfer outside", "no code", "mark past used - 2", "false outside", "digit", "n",
-        "order", "constant", "print length", "print byte"};
-    printf("no difference: seeds %llu to %llu, %llu runs\n", (unsigned long long)first,
-           (unsigned long long)last, runs);
-    for (size_t i = 0; i < REC_NUMBERS; i++)
-        if (numbers[i] > 0)
-            printf("number %2zu: %llu times\n", i, numbers[i]);
-    for (size_t i = 1; i < REC_CLAUSES; i++)
-        printf("29 by %s: %llu times\n", words[i], clauses[i]);
-}
-
 int main(int count, char **words)
 {
-    double seconds = count > 1 ? strtod(words[1], NULL) : 20;
-    uint64_t first = count > 2 ? strtoull(words[2], NULL, 10) : 1;
-    time_t start = time(NULL);
-    signal(SIGABRT, crashed);
-    signal(SIGSEGV, crashed);
-    signal(SIGFPE, crashed);
-    signal(SIGILL, crashed);
-    for (seed = first;; seed++) {
-        if (!try_seed(seed)) {
-            printf("DIFFERENCE at seed %llu\n", (unsigned long long)seed);
-            return 1;
-        }
-        if (difftime(time(NULL), start) >= seconds)
-            break;
-    }
-    report(first, seed);
-    return 0;
+    static const struct work stores = {ROUNDS, directed, round_of, counts};
+    return work(&stores, count, words);
 }

@@ -112,9 +112,12 @@ static void space(struct maker *m)
 {
     static const char *const comments[] = {"\"\"", "\" \"", "\"it's (so)\"",
                                            "\"$0$\"", "\"x\" "};
+    static const char *const newlines[] = {"\n", "\n\n", " \n ", "\"a\nb\"", "\"\n\""};
     if (!chance(m->r, m->taste->spaces))
         return;
-    if (chance(m->r, 80))
+    if (m->taste->newlines > 0 && chance(m->r, m->taste->newlines))
+        text_add(m->text, newlines[below(m->r, 5)]);
+    else if (chance(m->r, 80))
         text_add(m->text, chance(m->r, 80) ? " " : "  ");
     else
         text_add(m->text, comments[below(m->r, 5)]);
@@ -415,6 +418,7 @@ struct taste random_taste(struct random *r, const uint8_t *letters, size_t count
     taste.calls = chance(r, 50) ? 0 : (uint32_t)between(r, 2, 25);
     taste.spaces = chance(r, 60) ? 0 : (uint32_t)between(r, 1, 20);
     taste.endless = chance(r, 80) ? 3 : 50;
+    taste.newlines = 0;
     taste.letters = letters;
     taste.letter_count = count;
     return taste;
@@ -499,4 +503,173 @@ void text_spoil(struct random *r, struct text *text)
     int edits = chance(r, 70) ? 1 : between(r, 2, 6);
     while (edits-- > 0)
         spoil_once(r, text);
+}
+
+/* ---- hard texts -------------------------------------------------------- */
+
+static const char *pick_words(struct random *r, const char *const *words, size_t count)
+{
+    return words[below(r, (uint32_t)count)];
+}
+
+#define PICK(r, words) pick_words(r, words, sizeof(words) / sizeof(words)[0])
+
+void text_soup(struct random *r, struct text *text)
+{
+    static const char *const words[] = {
+        "(", "(", "(", "(", ")", ")", ";", ":", ",", ".", "A", "L", "M", "P", "O", "X", "I", "+", "-",
+        "*", "/", "F1", "S0", "F9", "N", "0", "J", "a", "q", "z", "$1$", "$9999$", "$07$", "'/5'",
+        "'/-999999999'", "'''", "''ab'", "''\"('", "\n", "\n", " ", "  ", "\"\"", "\"it's\"",
+        "\"a\nb\"", "\"\n\""};
+    static const char *const odd[] = {
+        "F", "S", "$", "$0$", "$12345$", "$1", "'", "'/", "'/-", "'/1234567890'", "''", "\"", "1",
+        "9", "B", "\t", "\r", "#", "\x7f", "\x80", "''\n'", "F\n1", "$\n1$", "'\n/1'"};
+    int parts = between(r, 0, chance(r, 80) ? 25 : 120);
+    uint32_t oddness = chance(r, 60) ? 0 : (uint32_t)between(r, 1, 12);
+    int level = 0;
+    text_clear(text);
+    if (chance(r, 15))
+        text_add(text, chance(r, 50) ? "\n" : "\"\n\" ");
+    if (chance(r, 95)) {
+        text_add(text, "(");
+        level = 1;
+    }
+    while (parts-- > 0) {
+        const char *next = chance(r, oddness) ? PICK(r, odd) : PICK(r, words);
+        if (next[0] == ')' && level == 1 && chance(r, 95))
+            continue;
+        level += next[0] == '(' ? 1 : next[0] == ')' ? -1 : 0;
+        text_add(text, next);
+    }
+    if (chance(r, 85))
+        text_fill(text, ")", level > 0 ? (size_t)level : 0);
+    if (chance(r, 15))
+        text_add(text, chance(r, 50) ? "\n" : " \"\n\"");
+}
+
+void text_raw(struct random *r, struct text *text)
+{
+    static const char *const starts[] = {"", "(", "(X;", "'", "(''", "('/1", "($", "($1", "(\"", "()",
+                                         "(((", "(F", "\n(\n"};
+    static const char marks[] = "((();:,.AFLIMNOPSXJ0123456789''//$$\"-+* aqz\n\n";
+    int length = between(r, 0, chance(r, 80) ? 30 : 300);
+    uint32_t any = chance(r, 50) ? 100 : below(r, 101);
+    text_clear(text);
+    text_add(text, PICK(r, starts));
+    while (length-- > 0) {
+        uint8_t byte = (uint8_t)below(r, 256);
+        text_byte(text, chance(r, any) ? byte : (uint8_t)marks[below(r, sizeof marks - 1)]);
+    }
+}
+
+void text_cells(struct random *r, struct text *text, size_t cells)
+{
+    static const struct {
+        const char *words;
+        size_t cells;
+    } marks[] = {{"A", 1}, {";", 1}, {":", 1}, {"F2", 2}, {"()", 1}, {"(;)", 2}, {"(N:)", 4},
+                 {"''a'", 3}, {"'/7'", 2}, {"$9$", 4}, {"\n", 0}, {"''abcdefgh'", 10}};
+    size_t counters = 0, most = text->length + cells - cells / 4;
+    while (cells > 0) {
+        size_t i = below(r, sizeof marks / sizeof marks[0]);
+        if (text->length > most || marks[i].cells > cells || chance(r, 60)) {
+            text_add(text, cells > 1 ? chance(r, 50) ? "N" : "q" : "A");
+            cells -= cells > 1 ? 2 : 1;
+        } else if (marks[i].words[0] != '$' || counters++ < 16) {
+            text_add(text, marks[i].words);
+            cells -= marks[i].cells;
+        }
+    }
+}
+
+/* About 256 bytes. */
+static void hard_length(struct random *r, struct text *text)
+{
+    static const char *const pads[] = {" ", "\n", "\"\"", "\" \n\"", "N"};
+    size_t length = (size_t)between(r, 254, 259);
+    const char *pad = PICK(r, pads);
+    bool before = pad[0] != 'N' && chance(r, 30), behind = pad[0] != 'N' && chance(r, 40);
+    text_clear(text);
+    if (before)
+        text_fill(text, pad, below(r, 40));
+    text_add(text, chance(r, 95) ? "(X" : "X(");
+    while (!behind && text->length < length - 6 && (pad[0] != 'N' || text->length < 120))
+        text_add(text, pad);
+    text_add(text, ";)");
+    while (behind && text->length + strlen(pad) <= length)
+        text_add(text, pad);
+    while (text->length < length)
+        text_add(text, chance(r, 50) ? " " : "\n");
+}
+
+/* About 10 levels. */
+static void hard_levels(struct random *r, struct text *text)
+{
+    static const char *const insides[] = {"", "'/1'", "X", "$2$", "X;", "N:", "\"(\"", "\n", "()", "(;)N",
+                                          "''(('"};
+    int levels = between(r, 9, 11);
+    text_clear(text);
+    for (int i = 0; i < levels; i++) {
+        text_add(text, "(");
+        text_add(text, PICK(r, insides));
+    }
+    for (int i = 0; i < levels; i++)
+        text_add(text, chance(r, 30) ? ";)" : ")");
+}
+
+/* About 16 counters, the table full at times. */
+static void hard_counters(struct random *r, struct text *text)
+{
+    static const char *const lasts[] = {"$1$", "$1$", "$1$", "$0$", "$12345$", "$$", "$9999$", "$7",
+                                        "$0001$", "$1x$", "$\n1$", "$0000$"};
+    int counters = between(r, 14, 17);
+    text_clear(text);
+    text_add(text, "(");
+    if (chance(r, 30))
+        text_fill(text, "N", (size_t)between(r, 88, 93));
+    for (int i = 0; i < counters; i++) {
+        text_add(text, "$3$");
+        if (chance(r, 20))
+            text_add(text, "\n");
+    }
+    text_add(text, PICK(r, lasts));
+    text_add(text, ")");
+}
+
+/* About 250 cells. */
+static void hard_cells(struct random *r, struct text *text)
+{
+    static const char *const marks[] = {"", "A", "F1", "S0", "N", "q", "$1$", "'/5'", "''ab'", "'''",
+                                        ";", ":", "()", "(;)", "F", "Fx", "'/5", "'/x", "''ab", "$0$",
+                                        "$5", "'x", "(", "#", "\n"};
+    text_clear(text);
+    text_add(text, "(");
+    text_cells(r, text, (size_t)between(r, 243, 250) - 1);
+    text_add(text, PICK(r, marks));
+    if (chance(r, 95))
+        text_add(text, ")");
+}
+
+void text_hard(struct random *r, const uint8_t *letters, size_t count, struct text *text)
+{
+    static void (*const limits[])(struct random *, struct text *) = {
+        hard_length, hard_levels, hard_counters, hard_cells};
+    struct taste taste = random_taste(r, letters, count);
+    uint32_t pick = below(r, 100);
+    taste.newlines = chance(r, 50) ? 0 : (uint32_t)between(r, 5, 80);
+    if (chance(r, 30))
+        taste.spaces = 20;
+    if (pick < 45) {
+        text_random(r, &taste, text);
+        if (pick >= 25)
+            text_spoil(r, text);
+    } else if (pick < 65) {
+        text_soup(r, text);
+    } else if (pick < 72) {
+        text_raw(r, text);
+    } else {
+        limits[below(r, 4)](r, text);
+        if (chance(r, 10))
+            text_spoil(r, text);
+    }
 }

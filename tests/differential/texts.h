@@ -37,6 +37,7 @@ struct taste {
     uint32_t calls;   /* percent of calls among the marks */
     uint32_t spaces;  /* percent of blanks and comments after a mark */
     uint32_t endless; /* percent of loops without a way out */
+    uint32_t newlines; /* percent of newlines among what parts the marks */
     const uint8_t *letters; /* letters it may call */
     size_t letter_count;
 };
@@ -46,5 +47,14 @@ void text_random(struct random *r, const struct taste *taste, struct text *text)
 
 /* Spoils bytes by edits, cuts and repeats. */
 void text_spoil(struct random *r, struct text *text);
+
+/* Texts that are good or bad: each of the numbers 0 and 2 to 9 comes. Newlines
+ * stand in them, so no desk line can carry them. */
+void text_hard(struct random *r, const uint8_t *letters, size_t count, struct text *text);
+void text_soup(struct random *r, struct text *text); /* marks in any order */
+void text_raw(struct random *r, struct text *text);  /* bytes of all values */
+
+/* Marks of so many cells, 16 counters at most, expressions closed. */
+void text_cells(struct random *r, struct text *text, size_t cells);
 
 #endif

@@ -6,8 +6,8 @@
  * rec_store_* the store: code tables, obeyed cell by cell, damaged or not
  *
  * The two ways to run share no code beside the limits below. */
-#ifndef REC_H
-#define REC_H
+#ifndef REFERENCE_H
+#define REFERENCE_H
 
 #include <stdbool.h>
 #include <stddef.h>

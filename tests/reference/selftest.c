@@ -1,6 +1,6 @@
 /* Tries the reference itself.
  *
- *     selftest [HISTORIES] [FIRST_SEED]
+ *     selftest [HISTORIES [FIRST_SEED]]      see ../differential/work.h
  *
  * - every example of document 01, starred or not: tables, answers, steps
  * - the desk, edge by edge
@@ -9,9 +9,7 @@
  * - the nested meaning against the table machine on random histories
  * - both of these on all short texts over a small set of bytes
  *
- * Built with rec.c and ../differential/texts.c.
- *
- * Prints what went wrong and ends with 1, or a summary and 0. */
+ * Built with rec.c and texts.c and work.c of ../differential. */
 #include <stdio.h>
 #include <stdlib.h>
 #include <string.h>
@@ -19,6 +17,7 @@
 #define DESK_WITHOUT_MAIN
 #include "desk.c"
 #include "../differential/texts.h"
+#include "../differential/work.h"
 
 static unsigned tried, wrong;
 
@@ -981,6 +980,8 @@ static void random_readings(struct random *r, const uint8_t *letters, unsigned *
         numbers[compare_readers(text.bytes, text.length)]++;
         random_full(r, &text);
         numbers[compare_readers(text.bytes, text.length)]++;
+        text_hard(r, letters, 5, &text);
+        numbers[compare_readers(text.bytes, text.length)]++;
     }
 }
 
@@ -1093,24 +1094,14 @@ static void all_short_texts(void)
     printf("short texts: %u accepted and run\n", accepted);
 }
 
-static void random_histories(unsigned histories, uint64_t first)
-{
-    unsigned numbers[REC_NUMBERS] = {0};
-    unsigned before = wrong;
-    for (unsigned i = 0; i < histories && wrong == before; i++) {
-        random_history(first + i, numbers);
-        if (wrong > before)
-            printf("in the history of seed %llu\n", (unsigned long long)(first + i));
-    }
-    for (size_t i = 0; i < REC_NUMBERS; i++)
-        if (numbers[i] > 0)
-            printf("number %2zu: %u times\n", i, numbers[i]);
-}
+/* ---- all of it --------------------------------------------------------- */
 
-int main(int count, char **words)
+enum { HISTORIES = 3000 };
+
+static unsigned numbers[REC_NUMBERS];
+
+static bool directed(void)
 {
-    unsigned histories = count > 1 ? (unsigned)strtoul(words[1], NULL, 10) : 2000;
-    uint64_t first = count > 2 ? strtoull(words[2], NULL, 10) : 1;
     examples_of_tables();
     examples_of_runs();
     examples_of_calls();
@@ -1125,8 +1116,33 @@ int main(int count, char **words)
     desk_many();
     printf("examples and edges: %u checks, %u wrong\n", tried, wrong);
     all_short_texts();
-    random_histories(histories, first);
-    printf("with %u histories from seed %llu: %u checks, %u wrong\n", histories,
-           (unsigned long long)first, tried, wrong);
-    return wrong > 0;
+    return wrong == 0;
+}
+
+static bool one_history(uint64_t seed)
+{
+    random_history(seed, numbers);
+    return wrong == 0;
+}
+
+/* Each number but 14, of desk lines alone, and 13 and 29, which no history has. */
+static bool counts(bool only_directed, bool full)
+{
+    bool good = true;
+    if (only_directed)
+        return true;
+    printf("%u checks\n", tried);
+    for (uint32_t i = 0; i < REC_NUMBERS; i++) {
+        if (i <= REC_BAD_LIST || (i >= REC_SPENT && i < REC_DAMAGED))
+            good &= met(numbers[i], full ? 10 : 0, "number %u (%s)", (unsigned)i, number_word(i));
+        else
+            good &= check(numbers[i] == 0, "a number that no history has", number_word(i));
+    }
+    return good;
+}
+
+int main(int count, char **words)
+{
+    static const struct work selftest = {HISTORIES, directed, one_history, counts};
+    return work(&selftest, count, words);
 }

@@ -1,0 +1,245 @@
+#include "calls.h"
+
+#include <stdio.h>
+#include <string.h>
+
+#include "door.h"
+#include "work.h"
+
+/* ---- calls ------------------------------------------------------------- */
+
+void soil(struct random *r, struct side *side)
+{
+    memset(side, 0, sizeof *side);
+    for (size_t i = 0; i < FIGURES + BEHIND; i++)
+        side->figures[i] = random_bits(r);
+    for (size_t i = 0; i < LIST_ROOM; i++)
+        side->list[i] = (int32_t)random_bits(r);
+    for (size_t i = 0; i < OUTPUT_ROOM; i++)
+        side->output[i] = (uint8_t)random_bits(r);
+}
+
+static struct rec_loan loan_of(const struct call *call, struct side *side)
+{
+    struct rec_loan loan = {call->input, call->input_length, side->list, call->list_length,
+                            side->output, call->output_length};
+    return loan;
+}
+
+static void keep_answer(struct side *side, const struct rec_answer *a)
+{
+    side->number = a->number;
+    side->clause = a->clause;
+    side->figures[0] = a->truth;
+    side->figures[1] = a->steps;
+    side->figures[2] = a->height;
+    side->figures[3] = a->taken;
+    side->figures[4] = a->written;
+}
+
+void call_store(struct rec_store *store, const struct call *call, struct side *side)
+{
+    struct rec_loan loan = loan_of(call, side);
+    struct rec_answer a;
+    switch (call->kind) {
+    case DEFINE:
+        side->number = rec_store_define(store, call->letter, call->text.bytes, call->text.length);
+        break;
+    case WITHDRAW:
+        side->number = rec_store_withdraw(store, call->letter);
+        break;
+    default:
+        a = rec_store_run(store->cells, store->used, store->variables, call->letter,
+                          call->allowance, &loan);
+        keep_answer(side, &a);
+        break;
+    }
+}
+
+void call_book(struct rec_book *book, const struct call *call, struct side *side)
+{
+    struct rec_loan loan = loan_of(call, side);
+    struct rec_answer a;
+    switch (call->kind) {
+    case DEFINE:
+        side->number = rec_book_define(book, call->letter, call->text.bytes, call->text.length);
+        break;
+    case WITHDRAW:
+        side->number = rec_book_withdraw(book, call->letter);
+        break;
+    default:
+        a = rec_book_run(book, call->letter, call->allowance, &loan);
+        keep_answer(side, &a);
+        break;
+    }
+}
+
+void call_door(struct rec_store *store, const struct call *call, struct side *side)
+{
+    /* the reference keeps variable 0 last, the engine first */
+    int32_t vars[REC_VARIABLES + BEHIND];
+    for (size_t i = 0; i < REC_VARIABLES; i++)
+        vars[(i + 1) % REC_VARIABLES] = store->variables[i];
+    for (size_t i = 0; i < BEHIND; i++)
+        vars[REC_VARIABLES + i] = 4711;
+    switch (call->kind) {
+    case DEFINE:
+        side->number = rec_define(store->cells, store->used, vars, call->letter,
+                                  call->text.bytes, call->text.length);
+        break;
+    case WITHDRAW:
+        side->number = rec_withdraw(store->cells, store->used, vars, call->letter);
+        break;
+    default:
+        side->number = rec_run(store->cells, store->used, vars, call->letter, call->allowance,
+                               call->input, call->input_length, side->list, call->list_length,
+                               side->output, call->output_length, side->figures);
+        break;
+    }
+    for (size_t i = 0; i < REC_VARIABLES; i++)
+        store->variables[i] = vars[(i + 1) % REC_VARIABLES];
+    for (size_t i = 0; i < BEHIND; i++)
+        if (vars[REC_VARIABLES + i] != 4711)
+            store->variables[0] = INT32_MIN; /* differs from every expected one */
+}
+
+/* ---- comparing --------------------------------------------------------- */
+
+bool same(const char *what, long long index, long long expected, long long got)
+{
+    if (expected != got)
+        printf("  %s %lld: expected %lld, got %lld\n", what, index, expected, got);
+    return expected == got;
+}
+
+bool same_sides(const struct side *expected, const struct side *got)
+{
+    bool good = same("number", 0, expected->number, got->number);
+    for (size_t i = 0; i < FIGURES + BEHIND; i++)
+        good &= same("figure", (long long)i, (long long)expected->figures[i],
+                     (long long)got->figures[i]);
+    for (size_t i = 0; i < LIST_ROOM && good; i++)
+        good &= same("list place", (long long)i, expected->list[i], got->list[i]);
+    for (size_t i = 0; i < OUTPUT_ROOM && good; i++)
+        good &= same("output byte", (long long)i, expected->output[i], got->output[i]);
+    return good;
+}
+
+bool same_variables(const int32_t *expected, const int32_t *got)
+{
+    bool good = true;
+    for (size_t i = 0; i < REC_VARIABLES; i++)
+        good &= same("variable", (long long)(i + 1) % REC_VARIABLES, expected[i], got[i]);
+    return good;
+}
+
+bool same_tables(const struct rec_store *expected, const struct rec_store *got)
+{
+    bool good = true;
+    for (size_t i = 0; i < REC_LETTERS; i++)
+        good &= same("used cells of letter", (long long)i + 1, (long long)expected->used[i],
+                     (long long)got->used[i]);
+    for (size_t i = 0; i < REC_LETTERS * REC_CELLS && good; i++)
+        good &= same("cell (250 for each letter)", (long long)i + 1, expected->cells[i],
+                     got->cells[i]);
+    return good;
+}
+
+void show_call(const struct call *call)
+{
+    static const char *const words[CALL_KINDS] = {"define", "withdraw", "run"};
+    printf("  %s, letter %u", words[call->kind], (unsigned)call->letter);
+    if (call->kind == RUN)
+        printf(", allowance %lu, %zu inputs, list %zu, output %zu",
+               (unsigned long)call->allowance, call->input_length, call->list_length,
+               call->output_length);
+    if (call->kind == DEFINE) {
+        printf(", text of %zu bytes: ", call->text.length);
+        for (size_t i = 0; i < call->text.length && i < 400; i++) {
+            uint8_t byte = call->text.bytes[i];
+            printf(byte < 32 || byte > 126 || byte == '\\' ? "\\x%02x" : "%c", byte);
+        }
+    }
+    putchar('\n');
+}
+
+uint32_t suit_allowance(struct random *r, const struct side *ended, uint32_t trial)
+{
+    uint32_t steps = (uint32_t)ended->figures[1];
+    switch (below(r, 9)) {
+    case 0:
+        return steps;
+    case 1:
+        return steps > 0 ? steps - 1 : 0;
+    case 2:
+        return below(r, steps + 2);
+    case 3:
+        return ended->number == REC_SPENT ? trial : UINT32_MAX - below(r, 2);
+    case 4:
+        return ended->number == REC_SPENT ? 3 : (uint32_t)1 << 31;
+    case 5:
+        return below(r, 4);
+    default:
+        return below(r, 1000);
+    }
+}
+
+/* ---- what was met ------------------------------------------------------ */
+
+void count_call(struct tally *tally, const struct call *call, const struct side *expected)
+{
+    tally->calls++;
+    tally->numbers[call->kind][expected->number]++;
+    if (call->kind != RUN)
+        return;
+    tally->clauses[expected->clause]++;
+    if (expected->number == REC_FINISHED || expected->number >= REC_SPENT) {
+        size_t taken = expected->figures[3];
+        tally->taken[expected->number != 0][taken < TAKEN ? taken : TAKEN - 1]++;
+    }
+    if (expected->number == REC_FINISHED) {
+        tally->exact_steps += expected->figures[1] == call->allowance;
+        tally->exact_paper += expected->figures[4] > 0
+                              && expected->figures[4] == call->output_length;
+    }
+}
+
+static bool is_listed(const uint8_t *numbers, uint32_t number)
+{
+    for (; *numbers != MUST_END; numbers++)
+        if (*numbers == number)
+            return true;
+    return false;
+}
+
+bool numbers_met(const struct tally *tally, const struct must *must, unsigned long long least)
+{
+    static const char *const words[CALL_KINDS] = {"define", "withdraw", "run"};
+    bool good = true;
+    for (size_t kind = 0; kind < CALL_KINDS; kind++)
+        for (uint32_t i = 0; i < REC_NUMBERS; i++) {
+            unsigned long long times = tally->numbers[kind][i];
+            if (is_listed(must->numbers[kind], i)) {
+                good &= met(times, least, "%s: number %u (%s)", words[kind], (unsigned)i,
+                            number_word(i));
+            } else if (times > 0) {
+                printf("%s: number %u (%s) can not come here, but came %llu times\n",
+                       words[kind], (unsigned)i, number_word(i), times);
+                good = false;
+            }
+        }
+    return good;
+}
+
+bool runs_met(const struct tally *tally, unsigned long long least)
+{
+    static const char *const words[TAKEN] = {"0", "1", "2", "3 or more"};
+    bool good = true;
+    for (size_t i = 0; i < 2; i++)
+        for (size_t j = 0; j < TAKEN; j++)
+            good &= met(tally->taken[i][j], least, "run %s, inputs taken: %s",
+                        i ? "stopped" : "finished", words[j]);
+    good &= met(tally->exact_steps, least, "run finished with its whole allowance");
+    good &= met(tally->exact_paper, least, "run finished with its whole output");
+    return good;
+}
