@@ -2,7 +2,7 @@
  * both from a fresh start. Each number and figure, every list place and output
  * byte, and the variables after each call.
  *
- *     histories [ROUNDS [FIRST_SEED]]      see work.h
+ *     histories [FIRST_SEED [ROUNDS]]      see work.h
  *
  * Built with calls.c, work.c, texts.c, the reference and libdoor.a. */
 #include <stdio.h>

@@ -1,7 +1,7 @@
 /* Compares the linker behind include/rec.h with the reference: the number by
  * rec_check and by rec_link, and every cell of the lent room.
  *
- *     links [ROUNDS [FIRST_SEED]]      see work.h
+ *     links [FIRST_SEED [ROUNDS]]      see work.h
  *
  * Built with work.c, texts.c, the reference and liblinker.a. */
 #define _DEFAULT_SOURCE /* mmap */
@@ -17,7 +17,7 @@
 #include "work.h"
 
 enum {
-    ROUNDS = 9000,
+    ROUNDS = 15000,
     TEXTS = 40,   /* of a round */
     GUARD = 8,    /* places before and behind a lent room */
     ROOM = 600,   /* the largest lent room */
@@ -29,7 +29,7 @@ enum {
 
 enum room { NO_ROOM, LESS, EXACT, MORE, ROOMS };
 
-static unsigned long long numbers[LAST], between_marks, in_comments, refused_newlines,
+static unsigned long long texts, numbers[LAST], between_marks, in_comments, refused_newlines,
     bytes[256], rooms[ROOMS][2];
 
 /* Newlines of an accepted text, between its marks or in its comments. */
@@ -55,6 +55,7 @@ static void count_newlines(const uint8_t *text, size_t length)
 
 static void count_text(const uint8_t *text, size_t length, size_t room, uint32_t number)
 {
+    texts++;
     numbers[number]++;
     rooms[room == 0 ? NO_ROOM : room < REC_CELLS ? LESS : room == REC_CELLS ? EXACT : MORE]
          [number != 0]++;
@@ -89,7 +90,7 @@ static bool counts(bool directed, bool full)
 {
     unsigned long long least = directed ? 5 : full ? 1000 : 0;
     bool good = true;
-    puts(directed ? "directed cases:" : "rounds:");
+    printf("%s: %llu texts\n", directed ? "directed cases" : "rounds", texts);
     for (uint32_t i = 0; i < LAST; i++)
         if (i != REC_NO_SUCH_LETTER)
             good &= met(numbers[i], least, "number %u (%s)", (unsigned)i, number_word(i));
@@ -101,7 +102,7 @@ static bool counts(bool directed, bool full)
     memset(numbers, 0, sizeof numbers);
     memset(rooms, 0, sizeof rooms);
     memset(bytes, 0, sizeof bytes);
-    between_marks = in_comments = refused_newlines = 0;
+    texts = between_marks = in_comments = refused_newlines = 0;
     return good;
 }
 

@@ -1,7 +1,7 @@
 /* Compares calls on damaged stores: the reference's store against the engine
  * behind door.h. Every figure, list place, output byte, cell, count and variable.
  *
- *     stores [ROUNDS [FIRST_SEED]]      see work.h
+ *     stores [FIRST_SEED [ROUNDS]]      see work.h
  *
  * Built with calls.c, work.c, texts.c, the reference and libdoor.a. */
 #include <stdio.h>

@@ -18,10 +18,10 @@ static bool in_rounds;
 static int differs(const char *what)
 {
     if (in_rounds)
-        printf("DIFFERENCE%s at seed %llu; repeat it with: %s 1 %llu\n", what,
+        printf("DIFFERENCE%s at seed %llu; repeat it with: %s %llu 1\n", what,
                (unsigned long long)seed, program, (unsigned long long)seed);
     else
-        printf("DIFFERENCE%s in the directed cases; repeat it with: %s 0\n", what, program);
+        printf("DIFFERENCE%s in the directed cases; repeat it with: %s 1 0\n", what, program);
     fflush(stdout);
     return 1;
 }
@@ -51,15 +51,14 @@ int work(const struct work *w, int count, char **words)
 {
     uint64_t rounds = w->rounds, first = clock_seed();
     program = words[0];
-    if (count > 3 || (count > 1 && !whole(words[1], &rounds))
-        || (count > 2 && !whole(words[2], &first))) {
-        fprintf(stderr, "usage: %s [ROUNDS [FIRST_SEED]]\n", program);
+    if (count > 3 || (count > 1 && !whole(words[1], &first))
+        || (count > 2 && !whole(words[2], &rounds))) {
+        fprintf(stderr, "usage: %s [FIRST_SEED [ROUNDS]]\n", program);
         return 2;
     }
-    printf("%s: %llu rounds from seed %llu%s; repeat with: %s %llu %llu\n", program,
-           (unsigned long long)rounds, (unsigned long long)first,
-           count > 2 ? "" : ", a fresh one", program, (unsigned long long)rounds,
-           (unsigned long long)first);
+    printf("%s: %llu rounds from %s seed %llu; repeat with: %s %llu %llu\n", program,
+           (unsigned long long)rounds, count > 1 ? "the" : "the fresh", (unsigned long long)first,
+           program, (unsigned long long)first, (unsigned long long)rounds);
     fflush(stdout);
     signal(SIGABRT, crashed);
     signal(SIGSEGV, crashed);

@@ -7,7 +7,7 @@
 #include <stdint.h>
 
 struct work {
-    uint64_t rounds;                  /* of a full work, unless the command line has another number */
+    uint64_t rounds;                  /* of a full work, where the command line has no number */
     bool (*directed)(void);           /* the cases that come first; false: a difference */
     bool (*round)(uint64_t seed);     /* false: a difference */
     bool (*counts)(bool directed, bool full); /* false: a count is not met */
@@ -15,7 +15,7 @@ struct work {
 
 /* The main program:
  *
- *     PROGRAM [ROUNDS [FIRST_SEED]]
+ *     PROGRAM [FIRST_SEED [ROUNDS]]
  *
  * Without FIRST_SEED the clock gives one. The command that repeats the work is
  * printed before it. Exit 0: no difference, and each count met. Exit 1: a

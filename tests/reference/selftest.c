@@ -1,6 +1,6 @@
 /* Tries the reference itself.
  *
- *     selftest [HISTORIES [FIRST_SEED]]      see ../differential/work.h
+ *     selftest [FIRST_SEED [HISTORIES]]      see ../differential/work.h
  *
  * - every example of document 01, starred or not: tables, answers, steps
  * - the desk, edge by edge
