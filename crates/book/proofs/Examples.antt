@@ -1,4 +1,4 @@
--- The worked examples of lists of calls hold, by computation.
+-- The worked examples of calls hold, by computation.
 use mathlib.Core.Path.{refl}
 use Rattle.language.specs.Values.{isValue}
 use Rattle.language.specs.Effects.{perform, ask}
@@ -6,8 +6,20 @@ use Rattle.language.specs.Machine.{decode}
 use Rattle.book.specs.Book.{freshBook, bookCall}
 use Rattle.book.specs.Store.{freshStore, storeCall}
 use Rattle.book.specs.History.{answers}
-use Rattle.book.specs.Examples.{Hold, sessions}
+use Rattle.book.specs.Examples.{Hold, HoldLent, HoldFound, sessions, lendings, damaged, spoilt}
 
 pub sessions-hold : Hold sessions
 unfolding freshBook freshStore answers bookCall storeCall isValue perform ask decode
 sessions-hold = refl
+
+pub lendings-hold : HoldLent lendings
+unfolding freshBook freshStore answers bookCall storeCall isValue perform ask decode
+lendings-hold = refl
+
+pub damaged-hold : HoldFound damaged
+unfolding storeCall isValue perform ask decode
+damaged-hold = refl
+
+pub spoilt-hold : HoldFound spoilt
+unfolding storeCall isValue perform ask decode
+spoilt-hold = refl

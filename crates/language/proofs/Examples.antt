@@ -5,13 +5,37 @@ use Rattle.language.specs.Values.{isValue}
 use Rattle.language.specs.Effects.{start, perform, ask}
 use Rattle.language.specs.Meaning.{meaning}
 use Rattle.language.specs.Machine.{decode, arrive, run}
-use Rattle.language.specs.Examples.{textAt, Hold, starred, shared}
+use Rattle.language.specs.Examples.{textAt, Hold, starred, faults, limits, layouts, decodings, effects, control, stops}
 
 -- document 01's starred examples
 pub starred-hold : Hold starred
 unfolding read textAt start isValue perform ask meaning decode arrive run
 starred-hold = refl
 
-pub shared-hold : Hold shared
+pub faults-hold : Hold faults
+unfolding read
+faults-hold = refl
+
+pub limits-hold : Hold limits
+unfolding read
+limits-hold = refl
+
+pub layouts-hold : Hold layouts
+unfolding read
+layouts-hold = refl
+
+pub decodings-hold : Hold decodings
+unfolding decode
+decodings-hold = refl
+
+pub effects-hold : Hold effects
 unfolding read textAt start isValue perform ask meaning decode arrive run
-shared-hold = refl
+effects-hold = refl
+
+pub control-hold : Hold control
+unfolding read textAt start isValue perform ask meaning decode arrive run
+control-hold = refl
+
+pub stops-hold : Hold stops
+unfolding read textAt start isValue perform ask meaning decode arrive run
+stops-hold = refl

@@ -1,73 +1,137 @@
--- Worked examples, from the bytes of the texts on: the starred ones of document 01 as one list, and a second list for what meaning and machine
--- share: effects, the order of stops, and what a stopped run leaves.
+-- Worked examples, from the bytes of the texts on. Document 01's starred ones are one list. The other lists pin what definition and code take from
+-- one place: numbers, limits, bytes, cells, effects and stops. Every figure is written out here and none is taken from a definition.
 use mathlib.Core.Path.{_≡_}
-use Prim.Native.Nat.{ℕ, suc, _-_}
-use Prim.Native.Char.{Char, code}
+use Prim.Native.Nat.{ℕ, zero, suc, _-_}
+use Prim.Native.Char.{Char, code as codeOf}
 use Prim.Native.String.{String, [] as []ˢ, _∷_ as _∷ˢ_}
 use mathlib.Core.Bool.{Bool, true, false, cond}
 use mathlib.Core.Option.{Option, none, some}
-use mathlib.Core.List.{List, [], _∷_, map}
+use mathlib.Core.List.{List, [], _∷_, _++_, map}
 use lib.IntN.{ℤ, pos, negℤ}
-use lib.ListN.{take, replicate}
+use lib.ListN.{length, take, replicate}
 use lib.Dec.{eqb}
 use Rattle.language.specs.declared.Table.{Table}
-use Rattle.language.specs.declared.Refusal.{Refusal}
-use Rattle.language.specs.declared.Refusal.the-variants.{StrayMark, Deep, BadCounter, BadConstant, Unfinished}
 use Rattle.language.specs.declared.Ending.the-variants.{NoText}
-use Rattle.language.specs.Answers.{endingNumber}
-use Rattle.language.specs.Limits.{maxVariables}
+use Rattle.language.specs.Answers.{refusalNumber, endingNumber}
 use Rattle.language.specs.Letters.{letterIndex}
 use Rattle.language.specs.Syntax.{Expr}
 use Rattle.language.specs.Reading.{Reading, refused, accepted, read, exprOf}
 use Rattle.language.specs.Layout.{layout, cleared, codeStart}
 use Rattle.language.specs.Effects.{State, start}
 use Rattle.language.specs.Meaning.{Outcome, ended, stopped, meaning}
-use Rattle.language.specs.Machine.{Decoded, decode, arrive, run}
+use Rattle.language.specs.Machine.{transfer, fail, Decoded, last, damaged, code, decode, arrive, run}
+
+-- ── texts and figures ───────────────────────────────────────────────────────────────────────────
 
 -- the bytes of a text in plain characters
 abbrev pub bytes : String → List ℕ
 bytes []ˢ = []
-bytes (c ∷ˢ s) = code c ∷ bytes s
+bytes (c ∷ˢ s) = codeOf c ∷ bytes s
+
+-- n times the bytes t
+abbrev pub times : ℕ → List ℕ → List ℕ
+times zero t = []
+times (suc n) t = t ++ times n t
+
+-- minus n
+abbrev pub neg : ℕ → ℤ
+neg n = negℤ (pos n)
+
+-- so many zeros
+abbrev pub zeros : ℕ → List ℤ
+zeros n = replicate n (pos 0)
+
+-- "ten variables, 0 when fresh"
+abbrev pub fresh : List ℤ
+fresh = zeros 10
 
 -- ── a run of texts ──────────────────────────────────────────────────────────────────────────────
 
--- A run's number, truth, steps, values with the bottom first, and written bytes.
+-- A run's number, truth and steps; its values with the bottom first; the inputs taken; the ten variables that it holds at its end, variable 0
+-- first; and the written bytes.
 pub record Result : Type 0 where
   pub number : ℕ
   pub truth : Bool
   pub steps : ℕ
   pub values : List ℤ
+  pub taken : ℕ
+  pub variables : List ℤ
   pub printed : List ℕ
+
+-- the result of a state
+abbrev pub resultIn : ℕ → Bool → ℕ → State → Result
+resultIn k t n s =
+    record {
+      number = k;
+      truth = t;
+      steps = n;
+      values = take (s .height) (s .stack);
+      taken = s .taken;
+      variables = s .variables;
+      printed = take (s .written) (s .output);
+    }
 
 -- what an allowance of n came to
 abbrev pub resultOf : ℕ → Outcome → Result
-resultOf n (ended t s r) =
-    record { number = 0; truth = t; steps = n - r; values = take (s .height) (s .stack); printed = take (s .written) (s .output) }
-resultOf n (stopped e s r) =
-    record { number = endingNumber e; truth = false; steps = n - r; values = take (s .height) (s .stack); printed = take (s .written) (s .output) }
+resultOf n (ended t s r) = resultIn 0 t (n - r) s
+resultOf n (stopped e s r) = resultIn (endingNumber e) false (n - r) s
 
-abbrev ends : Bool → ℕ → List ℤ → Result
-ends t n l = record { number = 0; truth = t; steps = n; values = l; printed = [] }
+-- number, truth, steps and values, with no input taken, the variables 0 and nothing written
+abbrev pub simply : ℕ → Bool → ℕ → List ℤ → Result
+simply k t n l = record { number = k; truth = t; steps = n; values = l; taken = 0; variables = fresh; printed = [] }
 
-abbrev stops : ℕ → ℕ → List ℤ → Result
-stops k n l = record { number = k; truth = false; steps = n; values = l; printed = [] }
+-- finished with a truth after n steps
+abbrev pub ends : Bool → ℕ → List ℤ → Result
+ends t n l = simply 0 t n l
 
-abbrev prints : ℕ → String → Result
-prints n s = record { number = 0; truth = true; steps = n; values = []; printed = bytes s }
+-- stopped by the number k after n steps
+abbrev pub halts : ℕ → ℕ → List ℤ → Result
+halts k n l = simply k false n l
+
+-- with k inputs taken
+abbrev pub took : ℕ → Result → Result
+took k r =
+    record {
+      number = r .number;
+      truth = r .truth;
+      steps = r .steps;
+      values = r .values;
+      taken = k;
+      variables = r .variables;
+      printed = r .printed;
+    }
+
+-- with the variables v
+abbrev pub keeps : List ℤ → Result → Result
+keeps v r =
+    record { number = r .number; truth = r .truth; steps = r .steps; values = r .values; taken = r .taken; variables = v; printed = r .printed }
+
+-- with the bytes of s written
+abbrev pub wrote : String → Result → Result
+wrote s r =
+    record {
+      number = r .number;
+      truth = r .truth;
+      steps = r .steps;
+      values = r .values;
+      taken = r .taken;
+      variables = r .variables;
+      printed = bytes s;
+    }
 
 -- texts under letters, and the letter, allowance, inputs and room for output bytes of a run
 pub record Trial : Type 0 where
-  pub texts : List (Char × String)
+  pub texts : List (Char × List ℕ)
   pub letter : Char
   pub allowance : ℕ
   pub inputs : List ℤ
   pub room : ℕ
 
 -- the expression of letter a
-unfoldable pub textAt : List (Char × String) → ℕ → Option Expr
+unfoldable pub textAt : List (Char × List ℕ) → ℕ → Option Expr
 unfolding read exprOf
 textAt [] a = none
-textAt ((l, t) ∷ ts) a = cond (eqb (letterIndex (code l)) a) (exprOf (read (bytes t))) (textAt ts a)
+textAt ((l, t) ∷ ts) a = cond (eqb (letterIndex (codeOf l)) a) (exprOf (read t)) (textAt ts a)
 
 -- its table, and whether it stands
 abbrev pub tableOf : Option Expr → Table
@@ -81,16 +145,16 @@ isSome (some w) = true
 
 -- the state in which a trial starts
 abbrev pub startOf : Trial → State
-startOf x = start (replicate maxVariables (pos 0)) (x .inputs) (replicate (x .room) 42)
+startOf x = start fresh (x .inputs) (replicate (x .room) 42)
 
 -- what the nested meaning comes to, and the table machine over the texts' tables
 abbrev pub obeyedBy : Trial → Option Expr → Outcome
 obeyedBy x none = stopped NoText (startOf x) (x .allowance)
-obeyedBy x (some w) = meaning (textAt (x .texts)) (suc (x .allowance)) (letterIndex (code (x .letter))) w 0 (startOf x) (x .allowance)
+obeyedBy x (some w) = meaning (textAt (x .texts)) (suc (x .allowance)) (letterIndex (codeOf (x .letter))) w 0 (startOf x) (x .allowance)
 
 -- what the nested meaning gives
 abbrev pub meant : Trial → Outcome
-meant x = obeyedBy x (textAt (x .texts) (letterIndex (code (x .letter))))
+meant x = obeyedBy x (textAt (x .texts) (letterIndex (codeOf (x .letter))))
 
 -- the cells of the texts' tables, decoded
 abbrev pub decodedIn : Trial → ℕ → ℕ → Decoded
@@ -103,116 +167,566 @@ standsIn x a = isSome (textAt (x .texts) a)
 -- what the table machine gives
 abbrev pub machined : Trial → Outcome
 machined x =
-    run (decodedIn x) (standsIn x) (x .allowance) (arrive (decodedIn x) (standsIn x) [] (letterIndex (code (x .letter))) codeStart) (startOf x)
+    run (decodedIn x) (standsIn x) (x .allowance) (arrive (decodedIn x) (standsIn x) [] (letterIndex (codeOf (x .letter))) codeStart) (startOf x)
 
 -- ── examples ────────────────────────────────────────────────────────────────────────────────────
 
--- a text's used cells; a text's refusal; a run's result, by the nested meaning and by the table machine
+-- A text's table, all 250 cells of it, where these are used; the number that a text is refused with, 0 if it is accepted; a run's result, by the
+-- nested meaning and by the table machine; what a cell of a table says.
 pub data Example : Type 0 where
-  laidOut : String → List ℤ → Example
-  refusedAs : String → Refusal → Example
+  laidOut : List ℕ → List ℤ → Example
+  refusedAs : List ℕ → ℕ → Example
   gives : Trial → Result → Example
+  decodes : Table → ℕ → Decoded → Example
 
--- the used cells of an accepted text
-abbrev pub usedOf : Reading → List ℤ
-usedOf (refused r) = []
-usedOf (accepted w) = take (layout w .used) (layout w .cells)
+-- the used cells and all cells of an accepted text
+abbrev pub tableIn : Reading → ℕ × List ℤ
+tableIn (refused r) = (0, [])
+tableIn (accepted w) = (layout w .used, layout w .cells)
+
+-- the number that a text is refused with
+abbrev pub numberIn : Reading → ℕ
+numberIn (refused r) = refusalNumber r
+numberIn (accepted w) = 0
 
 -- what an example gives, and what it should give
 pub data Given : Type 0 where
-  table : List ℤ → Given
-  reading : Reading → Given
+  table : ℕ × List ℤ → Given
+  number : ℕ → Given
   results : Result → Result → Given
+  decoded : Decoded → Given
 
 -- what an example gives
 abbrev pub given : Example → Given
-given (laidOut t c) = table (usedOf (read (bytes t)))
-given (refusedAs t r) = reading (read (bytes t))
+given (laidOut t c) = table (tableIn (read t))
+given (refusedAs t k) = number (numberIn (read t))
 given (gives x r) = results (resultOf (x .allowance) (meant x)) (resultOf (x .allowance) (machined x))
+given (decodes t q d) = decoded (decode t q)
 
--- what it should give
+-- what it should give; "The other cells of the letter's 250 are 0."
 abbrev pub due : Example → Given
-due (laidOut t c) = table c
-due (refusedAs t r) = reading (refused r)
+due (laidOut t c) = table (length c, c ++ zeros (250 - length c))
+due (refusedAs t k) = number k
 due (gives x r) = results r r
+due (decodes t q d) = decoded d
 
 -- every example gives what it should
 abbrev pub Hold : List Example → Type 0
 Hold es = map given es ≡ map due es
 
--- a text run once with an allowance; with room for output besides
-abbrev printing : String → ℕ → ℕ → Result → Example
-printing t n room r = gives (record { texts = ("t", t) ∷ []; letter = "t"; allowance = n; inputs = []; room = room }) r
+-- a text in plain characters and its used cells after the first, which holds 2000
+abbrev lays : String → List ℤ → Example
+lays t c = laidOut (bytes t) (pos 2000 ∷ c)
 
-abbrev once : String → ℕ → Result → Example
-once t n r = printing t n 0 r
+-- a text in plain characters and the number that it is refused with
+abbrev fault : String → ℕ → Example
+fault t k = refusedAs (bytes t) k
+
+-- a text in plain characters that is accepted
+abbrev accept : String → Example
+accept t = fault t 0
+
+-- a text run with an allowance, inputs and room for output
+abbrev trial : List ℕ → ℕ → List ℤ → ℕ → Result → Example
+trial t n i room r = gives (record { texts = ("t", t) ∷ []; letter = "t"; allowance = n; inputs = i; room = room }) r
+
+-- a text run with an allowance and nothing else
+abbrev within : ℕ → String → Result → Example
+within n t r = trial (bytes t) n [] 0 r
+
+-- "Runs have allowance 1000 unless another is named."
+abbrev once : String → Result → Example
+once t r = within 1000 t r
+
+-- a text run with inputs
+abbrev fed : List ℤ → String → Result → Example
+fed i t r = trial (bytes t) 1000 i 0 r
+
+-- a text run with room for so many output bytes
+abbrev printing : ℕ → String → Result → Example
+printing n t r = trial (bytes t) 1000 [] n r
+
+-- texts under two letters, the first run with an allowance
+abbrev calling : ℕ → Char → List ℕ → Char → List ℕ → Result → Example
+calling n a s b t r = gives (record { texts = (a, s) ∷ (b, t) ∷ []; letter = a; allowance = n; inputs = []; room = 0 }) r
+
+-- texts under `a` and `b`, `a` run
+abbrev both : String → String → Result → Example
+both s t r = calling 1000 "a" (bytes s) "b" (bytes t) r
 
 -- ── document 01, "Examples", the starred ones ───────────────────────────────────────────────────
 
 -- the starred examples of document 01
 abbrev pub starred : List Example
 starred =
-    laidOut "()" (pos 2000 ∷ pos 0 ∷ pos 1 ∷ [])
-    ∷ once "()" 1000 (ends false 1 [])
-    ∷ laidOut "(;)" (pos 2000 ∷ pos 4 ∷ pos 0 ∷ pos 1 ∷ [])
-    ∷ once "(;)" 1000 (ends true 1 [])
-    ∷ laidOut "(())" (pos 2000 ∷ pos 4 ∷ pos 0 ∷ pos 1 ∷ [])
-    ∷ once "(())" 1000 (ends true 1 [])
-    ∷ laidOut "(:)" (pos 2000 ∷ pos 2 ∷ pos 0 ∷ pos 1 ∷ [])
-    ∷ once "(:)" 7 (stops 20 7 [])
-    ∷ once "(:)" 0 (stops 20 0 [])
-    ∷ laidOut "(N;)" (pos 2000 ∷ negℤ (pos 78) ∷ pos 5 ∷ pos 6 ∷ pos 0 ∷ pos 1 ∷ [])
-    ∷ laidOut "(N)" (pos 2000 ∷ negℤ (pos 78) ∷ pos 5 ∷ pos 0 ∷ pos 1 ∷ [])
-    ∷ laidOut "('/5'N)" (pos 2000 ∷ negℤ (pos 175) ∷ pos 5 ∷ negℤ (pos 78) ∷ pos 7 ∷ pos 0 ∷ pos 1 ∷ [])
-    ∷ once "('/5'N)" 1000 (ends true 2 (pos 5 ∷ []))
-    ∷ once "('/0'($5$'/1'+:;);)" 1000 (ends true 24 (pos 5 ∷ []))
-    ∷ once "('/0'('/1'+$5$:;);)" 1000 (ends true 26 (pos 6 ∷ []))
-    ∷ gives (record { texts = ("d", "(0L'/1';'/1'-d'/2'*;)") ∷ ("m", "(Id;)") ∷ []; letter = "m"; allowance = 1000; inputs = pos 3 ∷ []; room = 0 })
-    (ends true 28 (pos 8 ∷ []))
-    ∷ once "(((((((((())))))))))" 1000 (ends true 5 [])
-    ∷ refusedAs "((((((((((()))))))))))" Deep
+    lays "()" (pos 0 ∷ pos 1 ∷ [])
+    ∷ once "()" (ends false 1 [])
+    ∷ lays "(;)" (pos 4 ∷ pos 0 ∷ pos 1 ∷ [])
+    ∷ once "(;)" (ends true 1 [])
+    ∷ lays "(())" (pos 4 ∷ pos 0 ∷ pos 1 ∷ [])
+    ∷ once "(())" (ends true 1 [])
+    ∷ lays "(:)" (pos 2 ∷ pos 0 ∷ pos 1 ∷ [])
+    ∷ within 7 "(:)" (halts 20 7 [])
+    ∷ within 0 "(:)" (halts 20 0 [])
+    ∷ lays "(N;)" (neg 78 ∷ pos 5 ∷ pos 6 ∷ pos 0 ∷ pos 1 ∷ [])
+    ∷ lays "(N)" (neg 78 ∷ pos 5 ∷ pos 0 ∷ pos 1 ∷ [])
+    ∷ lays "('/5'N)" (neg 175 ∷ pos 5 ∷ neg 78 ∷ pos 7 ∷ pos 0 ∷ pos 1 ∷ [])
+    ∷ once "('/5'N)" (ends true 2 (pos 5 ∷ []))
+    ∷ once "('/0'($5$'/1'+:;);)" (ends true 24 (pos 5 ∷ []))
+    ∷ once "('/0'('/1'+$5$:;);)" (ends true 26 (pos 6 ∷ []))
+    ∷ gives
+    (record { texts = ("d", bytes "(0L'/1';'/1'-d'/2'*;)") ∷ ("m", bytes "(Id;)") ∷ []; letter = "m"; allowance = 1000; inputs = pos 3 ∷ []; room = 0 })
+    (took 1 (ends true 28 (pos 8 ∷ [])))
+    ∷ once "(((((((((())))))))))" (ends true 5 [])
+    ∷ fault "((((((((((()))))))))))" 4
     ∷ []
 
--- ── what meaning and machine share ──────────────────────────────────────────────────────────────
+-- ── refusals of a text ──────────────────────────────────────────────────────────────────────────
 
--- examples of what both accounts of a run take from one place
-abbrev pub shared : List Example
-shared =
-    -- a letter that does not stand
-    gives (record { texts = ("q", "(p;)") ∷ []; letter = "q"; allowance = 9; inputs = []; room = 0 }) (stops 27 0 [])
-    -- the allowance met exactly at the finish is no spent
-    ∷ once "('/5'N)" 2 (ends true 2 (pos 5 ∷ []))
-    ∷ once "('/5'N)" 1 (stops 20 1 (pos 5 ∷ []))
-    -- digit 0 is variable 0, and `S` keeps the top
-    ∷ once "('/3'S0'/4'S9F0F9;)" 99 (ends true 7 (pos 3 ∷ pos 4 ∷ pos 3 ∷ pos 4 ∷ []))
-    -- second-op-top, toward zero; the smallest value is whole
-    ∷ once "('/-7''/2'/;)" 99 (ends true 4 (negℤ (pos 3) ∷ []))
-    ∷ once "('/5''/7'-M;)" 99 (ends true 5 (pos 2 ∷ []))
-    ∷ once "('/-999999999'AP*;)" 99 (stops 23 3 (pos 999999999 ∷ pos 999999999 ∷ []))
-    -- 21 before 24 before 23: what a stopping mark leaves, and that it is not counted
-    ∷ once "('/0'/;)" 99 (stops 21 1 (pos 0 ∷ []))
-    ∷ once "('/1''/0'/;)" 99 (stops 24 2 (pos 1 ∷ pos 0 ∷ []))
-    ∷ once "('/999999999'P+;)" 99 (stops 23 2 (pos 999999999 ∷ pos 999999999 ∷ []))
-    -- predicates remove nothing; `J` is true where the two are equal
-    ∷ once "('/4'PJ0;N)" 99 (ends true 5 (pos 4 ∷ pos 4 ∷ []))
-    -- 25 before 22; 21 before 22; 22
-    ∷ once "('/1'($63$P:;)I;)" 999 (stops 25 192 (replicate 64 (pos 1)))
-    ∷ once "('/1'($63$P:;)P;)" 999 (stops 22 192 (replicate 64 (pos 1)))
-    ∷ once "(P;)" 9 (stops 21 0 [])
-    -- bytes in 12 columns; a print; nothing is written where not all fits
-    ∷ printing "('/-5'O''ab'XL;)" 99 15 (prints 6 "          -5ab\n")
-    ∷ printing "('/-5'O''ab'XL;)" 99 14
-    (record { number = 26; truth = false; steps = 3; values = negℤ (pos 5) ∷ []; printed = bytes "          -5ab" })
-    ∷ printing "('/-5'O''ab'XL;)" 99 11 (stops 26 1 (negℤ (pos 5) ∷ []))
-    -- a counter goes on from where a recursive entry left it
-    ∷ gives (record { texts = ("c", "('/1'$3$c;;)") ∷ []; letter = "c"; allowance = 99; inputs = []; room = 0 })
-    (ends true 15 (pos 1 ∷ pos 1 ∷ pos 1 ∷ pos 1 ∷ []))
+-- the text `(`b`)` is refused as 3
+abbrev strayIn : ℕ → Example
+strayIn b = refusedAs (bytes "(" ++ b ∷ bytes ")") 3
+
+-- a text of one byte, or that byte after `()`, is refused as 3
+abbrev strayBefore : ℕ → Example
+strayBefore b = refusedAs (b ∷ []) 3
+
+abbrev strayAfter : ℕ → Example
+strayAfter b = refusedAs (bytes "()" ++ b ∷ []) 3
+
+-- the first bytes of all marks but `(`
+abbrev markBytes : List ℕ
+markBytes = bytes ");,:.ALMPOXI+-*/FSN0Jaz$'"
+
+-- a comment and a print of one byte, accepted or refused
+abbrev commentOf : ℕ → ℕ → Example
+commentOf k b = refusedAs (bytes "(\"" ++ b ∷ bytes "\")") k
+
+abbrev printOf : ℕ → ℕ → Example
+printOf k b = refusedAs (bytes "(''" ++ b ∷ bytes "')") k
+
+-- the refusals 3, 5, 6 and 7 of a text's forms, and what is accepted beside them
+abbrev pub faults : List Example
+faults =
+    -- 3, "a byte that may not stand there": every plain byte that begins no mark, and the bytes around blank, newline and the last plain one
+    map strayIn (bytes "!#%&123456789<=>?@BCDEGHKQRTUVWYZ[\\]^_`{|}~")
+    ++ map strayIn (0 ∷ 9 ∷ 11 ∷ 31 ∷ 127 ∷ 128 ∷ 255 ∷ [])
+    -- "A text is one outermost expression": a mark before its `(` and after its `)`
+    ++ map strayBefore markBytes
+    ++ map strayAfter (bytes "(" ++ markBytes)
+    -- at its first byte, whatever its form
+    ++ fault "$0$()" 3
+    ∷ fault "'/x()" 3
+    ∷ fault "F1()" 3
+    ∷ fault "()$x" 3
+    ∷ fault "()'/x" 3
+    ∷ fault "()''" 3
+    ∷ fault "()x\"" 3
+    -- "with only blanks, newlines and comments around it", and between marks
+    ∷ accept "\n \"a(\" (\n;\"b\" \" \n\"\"\") \n\"\""
+    -- "With a digit after, no blank between": the bytes around the digits as well
+    ∷ fault "(F)" 3
+    ∷ fault "(S)" 3
+    ∷ fault "(F 1)" 3
+    ∷ fault "(S/)" 3
+    ∷ fault "(F:)" 3
+    ∷ accept "(F0S1F2S3F4S5F6S7F8S9)"
+    -- after `'` comes `/` or `'`
+    ∷ fault "('x)" 3
+    ∷ fault "('1')" 3
+    ∷ fault "('-1')" 3
+    ∷ fault "(' '/1')" 3
+    -- a comment has "bytes 32 to 126 or 10 other than `"`", a print "bytes 32 to 126 other than `'`"
+    ∷ map (commentOf 3) (9 ∷ 11 ∷ 31 ∷ 127 ∷ [])
+    ++ map (commentOf 0) (10 ∷ 32 ∷ 33 ∷ 35 ∷ 39 ∷ 126 ∷ [])
+    ++ map (printOf 3) (9 ∷ 10 ∷ 11 ∷ 31 ∷ 127 ∷ [])
+    ++ map (printOf 0) (32 ∷ 34 ∷ 38 ∷ 40 ∷ 126 ∷ [])
+    ++ fault "(\"\"\")" 7
+    ∷ fault "('''')" 3
+    ∷ accept "(''')"
+    -- 5: "`$`, 1 to 4 digits, `$`; its number is 1 or more"
+    ∷ fault "($x$)" 5
+    ∷ fault "($1x$)" 5
+    ∷ fault "($$)" 5
+    ∷ fault "($0$)" 5
+    ∷ fault "($0000$)" 5
+    ∷ fault "($10000$)" 5
+    ∷ fault "($ 1$)" 5
+    ∷ fault "($1 $)" 5
+    ∷ fault "($-1$)" 5
+    ∷ fault "($/$)" 5
+    ∷ fault "($1:$)" 5
+    ∷ fault "($1'" 5
+    ∷ accept "($1$$0001$$9999$$2345$$678$$90$)"
+    -- 6: "`'/`, perhaps `-`, 1 to 9 digits, `'`"
+    ∷ fault "('/x')" 6
+    ∷ fault "('/1x')" 6
+    ∷ fault "('/-x')" 6
+    ∷ fault "('/')" 6
+    ∷ fault "('/-')" 6
+    ∷ fault "('/--1')" 6
+    ∷ fault "('/+1')" 6
+    ∷ fault "('/1-')" 6
+    ∷ fault "('/ 1')" 6
+    ∷ fault "('/1 ')" 6
+    ∷ fault "('//')" 6
+    ∷ fault "('/1:')" 6
+    ∷ fault "('/1$" 6
+    ∷ fault "('/1000000000')" 6
+    ∷ fault "('/-0000000001')" 6
+    ∷ accept "('/0''/-0''/999999999''/-999999999''/000000001''/123456789')"
+    -- 7, "the text ends before its grammar does": before the `(`, between marks and inside each mark
+    ∷ fault "" 7
+    ∷ fault " \n\"a\"" 7
+    ∷ fault "\"" 7
+    ∷ fault "(" 7
+    ∷ fault "(()" 7
+    ∷ fault "(A;:" 7
+    ∷ fault "(\"a" 7
+    ∷ fault "(F" 7
+    ∷ fault "(S" 7
+    ∷ fault "($" 7
+    ∷ fault "($0" 7
+    ∷ fault "('" 7
+    ∷ fault "('/" 7
+    ∷ fault "('/-" 7
+    ∷ fault "('/1" 7
+    ∷ fault "(''" 7
+    ∷ fault "(''a" 7
+    ∷ fault "()\"" 7
+    -- "the text left to right": the first fault's number
+    ∷ fault "(#'/x" 3
+    ∷ fault "('/x#" 6
+    ∷ fault "($x'/x" 5
+    ∷ fault "(('/x')" 6
+    ∷ []
+
+-- ── limits ──────────────────────────────────────────────────────────────────────────────────────
+
+-- the beginning of a text with n counters, of 4 cells each
+abbrev counters : ℕ → List ℕ
+counters n = bytes "(" ++ times n (bytes "$1$")
+
+-- the beginning of a text whose cells 2 to 249 are used, by 124 marks of two cells; to 250
+abbrev to249 : List ℕ
+to249 = bytes "(" ++ times 124 (bytes "N")
+
+abbrev to250 : List ℕ
+to250 = to249 ++ bytes "A"
+
+-- the beginning of a text with 16 counters whose cells 2 to 247 are used, so that a counter would need cell 251
+abbrev brimming : List ℕ
+brimming = counters 16 ++ times 91 (bytes "N")
+
+-- the same with 15 counters
+abbrev brimming15 : List ℕ
+brimming15 = counters 15 ++ times 93 (bytes "N")
+
+-- after such a beginning the bytes of s, and the number
+abbrev then : List ℕ → String → ℕ → Example
+then t s k = refusedAs (t ++ bytes s) k
+
+-- a text of n levels
+abbrev nested : ℕ → List ℕ
+nested n = times n (bytes "(") ++ times n (bytes ")")
+
+-- the limits of a text, on both sides, and the order at one mark: "its form (3, 5, 6, 7) comes before 9, and 9 before 8"
+abbrev pub limits : List Example
+limits =
+    -- 2, "over 256 bytes", before "the text left to right"
+    refusedAs (bytes "(" ++ times 254 (bytes " ") ++ bytes ")") 0
+    ∷ refusedAs (bytes "(" ++ times 255 (bytes " ") ++ bytes ")") 2
+    ∷ refusedAs (times 256 (bytes "#")) 3
+    ∷ refusedAs (times 257 (bytes "#")) 2
+    -- 4, "an 11th level", before anything later
+    ∷ refusedAs (nested 10) 0
+    ∷ refusedAs (nested 11) 4
+    ∷ then (times 10 (bytes "(")) "#(" 3
+    ∷ then (times 11 (bytes "(")) "#" 4
+    ∷ then (times 11 (bytes "(")) "" 4
+    ∷ then (to250 ++ times 10 (bytes "(")) "A" 4
+    ∷ then (times 9 (bytes "(")) "()()()))))))))))" 3
+    ∷ then (times 9 (bytes "(")) "()()())))))))))" 0
+    -- 9, "a 17th"
+    ∷ then (counters 16) ")" 0
+    ∷ then (counters 16) "$1$)" 9
+    ∷ then (counters 16) "$1$#" 9
+    ∷ then (counters 16) "#$1$" 3
+    -- 8, "a mark needs cell 251": each kind of mark
+    ∷ then to250 "A" 8
+    ∷ then to250 "F1" 8
+    ∷ then to250 "N" 8
+    ∷ then to250 "a" 8
+    ∷ then to250 "$1$" 8
+    ∷ then to250 "'/1'" 8
+    ∷ then to250 "'''" 8
+    ∷ then to250 ";" 8
+    ∷ then to250 ":" 8
+    ∷ then to250 "()" 8
+    ∷ then to250 ")" 8
+    ∷ then to250 "A#" 8
+    -- cell 250 is still there: what comes after the mark is the first fault
+    ∷ then to249 "A#" 3
+    ∷ then to249 ";#" 3
+    ∷ then to249 ":#" 3
+    ∷ then to249 "()#" 3
+    ∷ then to249 "F1" 8
+    ∷ then to249 "0" 8
+    ∷ then to249 "z" 8
+    ∷ then to249 "'/1'" 8
+    ∷ then to249 "'''" 8
+    -- "last `)`: both its cells"
+    ∷ then to249 ")" 8
+    ∷ then (bytes "(A" ++ times 123 (bytes "N")) ")" 0
+    ∷ then (bytes "(AA" ++ times 123 (bytes "N")) ")" 8
+    -- a print of 245 bytes fills 250 cells
+    ∷ then (bytes "(''" ++ times 245 (bytes "x")) "')" 0
+    ∷ then (bytes "(''" ++ times 246 (bytes "x")) "')" 8
+    ∷ then (bytes "(''" ++ times 247 (bytes "x")) "'#" 3
+    ∷ then (bytes "(''" ++ times 248 (bytes "x")) "'#" 8
+    -- the form before 8
+    ∷ then to250 "Fx" 3
+    ∷ then to250 "'x" 3
+    ∷ then to250 "''\n" 3
+    ∷ then to250 "#" 3
+    ∷ then to250 "$0$" 5
+    ∷ then to250 "$x" 5
+    ∷ then to250 "'/x" 6
+    ∷ then to250 "F" 7
+    ∷ then to250 "$1" 7
+    ∷ then to250 "'/1" 7
+    ∷ then to250 "''x" 7
+    ∷ then to250 "" 7
+    -- the form before 9
+    ∷ then (counters 16) "$x" 5
+    ∷ then (counters 16) "$0$" 5
+    ∷ then (counters 16) "$12345" 5
+    ∷ then (counters 16) "$1" 7
+    -- 9 before 8
+    ∷ then brimming "$1$" 9
+    ∷ then brimming15 "$1$" 8
+    ∷ then brimming "$0$" 5
+    ∷ then brimming "$1" 7
+    ∷ []
+
+-- ── the code table ──────────────────────────────────────────────────────────────────────────────
+
+-- the cells of every kind of mark, all 250 cells of each table
+abbrev pub layouts : List Example
+layouts =
+    -- each operator's code is minus its byte
+    lays "(ALMPOXI+-*/)"
+    (neg 65 ∷ neg 76 ∷ neg 77 ∷ neg 80 ∷ neg 79 ∷ neg 88 ∷ neg 73 ∷ neg 43 ∷ neg 45 ∷ neg 42 ∷ neg 47 ∷ pos 0 ∷ pos 1 ∷ [])
+    -- each predicate's, and the first and last letters', with the false of a last segment
+    ∷ lays "(N0Jabyz)"
+    (neg 78 ∷ pos 17 ∷ neg 48 ∷ pos 17 ∷ neg 74 ∷ pos 17 ∷ neg 97 ∷ pos 17 ∷ neg 98 ∷ pos 17 ∷ neg 121 ∷ pos 17 ∷ neg 122 ∷ pos 17 ∷ pos 0 ∷ pos 1 ∷ [])
+    -- "code, digit (0 as 10)"; "-36, -n, its order in the text from 0, false"; "code, length, bytes"
+    ∷ lays "(F0 S9 + $12$ $3$ ''ab' z)"
+    (neg 70 ∷ pos 10 ∷ neg 83 ∷ pos 9 ∷ neg 43 ∷ neg 36 ∷ neg 12 ∷ pos 0 ∷ pos 22 ∷ neg 36 ∷ neg 3 ∷ pos 1 ∷ pos 22
+    ∷ neg 167 ∷ pos 2 ∷ pos 97 ∷ pos 98 ∷ neg 122 ∷ pos 22 ∷ pos 0 ∷ pos 1 ∷ [])
+    ∷ lays "(F1S0'''$9999$''~ ')"
+    (neg 70 ∷ pos 1 ∷ neg 83 ∷ pos 10 ∷ neg 167 ∷ pos 0 ∷ neg 36 ∷ neg 9999 ∷ pos 0 ∷ pos 17 ∷ neg 167 ∷ pos 2 ∷ pos 126 ∷ pos 32 ∷ pos 0 ∷ pos 1 ∷ [])
+    -- "code, the value"
+    ∷ lays "('/-12''/0''/-0''/007''/999999999''/-999999999')"
+    (neg 175 ∷ neg 12 ∷ neg 175 ∷ pos 0 ∷ neg 175 ∷ pos 0 ∷ neg 175 ∷ pos 7 ∷ neg 175 ∷ pos 999999999 ∷ neg 175 ∷ neg 999999999 ∷ pos 0 ∷ pos 1 ∷ [])
     -- blanks, newlines and a comment are skipped; `,` is `;` and `.` is `:`
-    ∷ laidOut "\n(\" a\"N , N.) \n" (pos 2000 ∷ negℤ (pos 78) ∷ pos 5 ∷ pos 9 ∷ negℤ (pos 78) ∷ pos 8 ∷ pos 2 ∷ pos 0 ∷ pos 1 ∷ [])
-    -- first faults, left to right
-    ∷ refusedAs "" Unfinished
-    ∷ refusedAs "($0$)" BadCounter
-    ∷ refusedAs "('/1x" BadConstant
-    ∷ refusedAs "(F)" StrayMark
-    ∷ refusedAs "()x\"" StrayMark
+    ∷ lays "\n(\" a\"N , N.) \n" (neg 78 ∷ pos 5 ∷ pos 9 ∷ neg 78 ∷ pos 8 ∷ pos 2 ∷ pos 0 ∷ pos 1 ∷ [])
+    ∷ lays "(N;N:)" (neg 78 ∷ pos 5 ∷ pos 9 ∷ neg 78 ∷ pos 8 ∷ pos 2 ∷ pos 0 ∷ pos 1 ∷ [])
+    -- inner expressions: their first cell, the cell after their `)` cell, and the enclosing expression's false in their `)` cell
+    ∷ lays "(A(N:;)L;P(X)a)"
+    (neg 65 ∷ neg 78 ∷ pos 6 ∷ pos 3 ∷ pos 8 ∷ pos 10 ∷ neg 76 ∷ pos 16 ∷ neg 80 ∷ neg 88 ∷ pos 16 ∷ neg 97 ∷ pos 16 ∷ pos 0 ∷ pos 1 ∷ [])
+    -- a false is the cell after the next separator of the same expression, whatever stands between
+    ∷ lays "(N(;:)F1'/1''''$1$a0;(($1$)z:))"
+    (neg 78 ∷ pos 22 ∷ pos 7 ∷ pos 4 ∷ pos 22 ∷ neg 70 ∷ pos 1 ∷ neg 175 ∷ pos 1 ∷ neg 167 ∷ pos 0 ∷ neg 36 ∷ neg 1 ∷ pos 0 ∷ pos 22
+    ∷ neg 97 ∷ pos 22 ∷ neg 48 ∷ pos 22 ∷ pos 32 ∷ neg 36 ∷ neg 1 ∷ pos 1 ∷ pos 27 ∷ pos 30 ∷ neg 122 ∷ pos 30 ∷ pos 22 ∷ pos 32 ∷ pos 0 ∷ pos 1 ∷ [])
+    ∷ []
+
+-- a table of five cells, of which four are used: cells 1 and 5 hold what would be a transfer to cell 2
+abbrev five : Table
+five = record { used = 4; cells = pos 2 ∷ pos 4 ∷ pos 0 ∷ pos 1 ∷ pos 2 ∷ [] }
+
+-- "the due cell is outside 2 to used", which no run over a store that 13 lets through meets
+abbrev pub decodings : List Example
+decodings =
+    decodes five 0 damaged
+    ∷ decodes five 1 damaged
+    ∷ decodes five 2 (code (transfer 4))
+    ∷ decodes five 3 (code fail)
+    ∷ decodes five 4 last
+    ∷ decodes five 5 damaged
+    ∷ []
+
+-- ── effects ─────────────────────────────────────────────────────────────────────────────────────
+
+-- what each operator and predicate does
+abbrev pub effects : List Example
+effects =
+    -- "`A` absolute, `M` negated, `L` removes the top, `P` copies it."
+    once "('/5'A;)" (ends true 3 (pos 5 ∷ []))
+    ∷ once "('/-5'A;)" (ends true 3 (pos 5 ∷ []))
+    ∷ once "('/5'M;)" (ends true 3 (neg 5 ∷ []))
+    ∷ once "('/-5'M;)" (ends true 3 (pos 5 ∷ []))
+    ∷ once "('/5''/6'L;)" (ends true 4 (pos 5 ∷ []))
+    ∷ once "('/5''/6'P;)" (ends true 4 (pos 5 ∷ pos 6 ∷ pos 6 ∷ []))
+    -- "`+ - * /` replace second and top by second-op-top"
+    ∷ once "('/1''/7''/-2'+;)" (ends true 5 (pos 1 ∷ pos 5 ∷ []))
+    ∷ once "('/1''/5''/7'-;)" (ends true 5 (pos 1 ∷ neg 2 ∷ []))
+    ∷ once "('/1''/-4''/3'*;)" (ends true 5 (pos 1 ∷ neg 12 ∷ []))
+    ∷ once "('/1''/8''/2'/;)" (ends true 5 (pos 1 ∷ pos 4 ∷ []))
+    -- "`/` drops the remainder toward zero"
+    ∷ once "('/7''/2'/;)" (ends true 4 (pos 3 ∷ []))
+    ∷ once "('/-7''/2'/;)" (ends true 4 (neg 3 ∷ []))
+    ∷ once "('/7''/-2'/;)" (ends true 4 (neg 3 ∷ []))
+    ∷ once "('/-7''/-2'/;)" (ends true 4 (pos 3 ∷ []))
+    -- "`N` top negative, `0` top zero, `J` the two top values equal: these remove nothing."
+    ∷ once "('/-1'N;)" (ends true 3 (neg 1 ∷ []))
+    ∷ once "('/0'N;)" (ends false 3 (pos 0 ∷ []))
+    ∷ once "('/1'N;)" (ends false 3 (pos 1 ∷ []))
+    ∷ once "('/0'0;)" (ends true 3 (pos 0 ∷ []))
+    ∷ once "('/1'0;)" (ends false 3 (pos 1 ∷ []))
+    ∷ once "('/-1'0;)" (ends false 3 (neg 1 ∷ []))
+    ∷ once "('/3''/4''/4'J;)" (ends true 5 (pos 3 ∷ pos 4 ∷ pos 4 ∷ []))
+    ∷ once "('/4''/4''/3'J;)" (ends false 5 (pos 4 ∷ pos 4 ∷ pos 3 ∷ []))
+    ∷ once "('/4''/5'J;)" (ends false 4 (pos 4 ∷ pos 5 ∷ []))
+    ∷ once "('/4''/-4'J;)" (ends false 4 (pos 4 ∷ neg 4 ∷ []))
+    -- "`Fk` pushes variable k; `Sk` stores the top and keeps it.": which variable each digit is
+    ∷ once "('/10'S0L'/1'S1L'/2'S2L'/3'S3L'/4'S4L'/5'S5L'/6'S6L'/7'S7L'/8'S8L'/9'S9L;)"
+    (keeps (pos 10 ∷ pos 1 ∷ pos 2 ∷ pos 3 ∷ pos 4 ∷ pos 5 ∷ pos 6 ∷ pos 7 ∷ pos 8 ∷ pos 9 ∷ []) (ends true 31 []))
+    ∷ once "('/3'S0'/4'S9F0F9F1;)" (keeps (pos 3 ∷ zeros 8 ++ pos 4 ∷ []) (ends true 8 (pos 3 ∷ pos 4 ∷ pos 3 ∷ pos 4 ∷ pos 0 ∷ [])))
+    -- "`I` pushes the next input."
+    ∷ fed (pos 5 ∷ neg 7 ∷ []) "(II;)" (took 2 (ends true 3 (pos 5 ∷ neg 7 ∷ [])))
+    ∷ fed (pos 5 ∷ neg 7 ∷ []) "(I;)" (took 1 (ends true 2 (pos 5 ∷ [])))
+    -- "`O` writes the top right-justified in 12 columns", "`X` a newline; a print writes its bytes"
+    ∷ printing 12 "('/0'O;)" (wrote "           0" (ends true 3 (pos 0 ∷ [])))
+    ∷ printing 12 "('/5'O;)" (wrote "           5" (ends true 3 (pos 5 ∷ [])))
+    ∷ printing 12 "('/-5'O;)" (wrote "          -5" (ends true 3 (neg 5 ∷ [])))
+    ∷ printing 12 "('/10'O;)" (wrote "          10" (ends true 3 (pos 10 ∷ [])))
+    ∷ printing 12 "('/987654321'O;)" (wrote "   987654321" (ends true 3 (pos 987654321 ∷ [])))
+    ∷ printing 12 "('/-999999999'O;)" (wrote "  -999999999" (ends true 3 (neg 999999999 ∷ [])))
+    ∷ printing 1 "(X;)" (wrote "\n" (ends true 2 []))
+    ∷ printing 9 "(''a ~'''b';)" (wrote "a ~b" (ends true 3 []))
+    ∷ printing 0 "(''';)" (ends true 2 [])
+    ∷ printing 20 "('/-5'O''ab'XL;)" (wrote "          -5ab\n" (ends true 6 []))
+    ∷ []
+
+-- ── segments, counters and calls ────────────────────────────────────────────────────────────────
+
+-- where a run goes from mark to mark, and its steps
+abbrev pub control : List Example
+control =
+    -- "Reaching `;` ends true, `:` starts the expression again, `)` ends false."
+    once "('/1';'/2')" (ends true 2 (pos 1 ∷ []))
+    ∷ once "('/1')" (ends false 2 (pos 1 ∷ []))
+    ∷ within 4 "('/1':'/2')" (halts 20 4 (pos 1 ∷ pos 1 ∷ []))
+    -- "A false predicate goes to the next segment; in the last segment it ends the expression true"
+    ∷ once "('/5'N(A;)z+$1$;'/1';'/2';)" (ends true 4 (pos 5 ∷ pos 1 ∷ []))
+    ∷ once "('/5'N:'/1')" (ends false 4 (pos 5 ∷ pos 1 ∷ []))
+    ∷ once "('/5'N'/1')" (ends true 2 (pos 5 ∷ []))
+    ∷ once "('/-5'N)" (ends false 3 (neg 5 ∷ []))
+    -- "An inner expression is a predicate with that truth."
+    ∷ once "(('/1';)'/2';'/3';)" (ends true 4 (pos 1 ∷ pos 2 ∷ []))
+    ∷ once "(('/1')'/2';'/3';)" (ends true 4 (pos 1 ∷ pos 3 ∷ []))
+    ∷ once "(('/1'N)'/2';'/3';)" (ends true 4 (pos 1 ∷ pos 2 ∷ []))
+    ∷ once "('/0'(0L'/1':'/2');)" (ends false 9 (pos 1 ∷ pos 2 ∷ []))
+    -- "A call is a predicate with the truth of the standing text." A call is a step, "The return itself is none"
+    ∷ both "(b'/2';'/3';)" "('/1';)" (ends true 5 (pos 1 ∷ pos 2 ∷ []))
+    ∷ both "(b'/2';'/3';)" "('/1')" (ends true 5 (pos 1 ∷ pos 3 ∷ []))
+    ∷ both "(b'/2')" "('/1'N)" (ends false 5 (pos 1 ∷ pos 2 ∷ []))
+    ∷ both "(b)" "()" (ends true 2 [])
+    -- "A counter of n is true n times, then false and full again"
+    ∷ once "($1$'/1':'/2';)" (ends true 6 (pos 1 ∷ pos 2 ∷ []))
+    ∷ once "(($2$'/1':;)$1$:;)" (ends true 20 (pos 1 ∷ pos 1 ∷ pos 1 ∷ pos 1 ∷ []))
+    -- "a counter left partway goes on from there, shared by all recursive entries"
+    ∷ once "('/1'$3$t;;)" (ends true 15 (pos 1 ∷ pos 1 ∷ pos 1 ∷ pos 1 ∷ []))
+    -- "A count belongs to its letter and order.": two orders in one letter, one order in two letters
+    ∷ once "($1$'/1'$1$'/2';)" (ends true 5 (pos 1 ∷ pos 2 ∷ []))
+    ∷ both "($1$b'/1';)" "($1$;)" (ends true 6 (pos 1 ∷ []))
+    -- the last order of one letter and the first of the next; the last of all
+    ∷ calling 1000 "y" (counters 16 ++ bytes "z;)") "z" (bytes "($1$;)") (ends true 20 [])
+    ∷ calling 1000 "z" (bytes "(" ++ times 15 (bytes "$9$") ++ bytes "$1$:;)") "y" [] (ends true 34 [])
+    ∷ []
+
+-- ── stops ───────────────────────────────────────────────────────────────────────────────────────
+
+-- a text whose first mark is the byte b, over no values; over the value 0
+abbrev emptyAt : ℕ → Example
+emptyAt b = trial (bytes "(" ++ b ∷ bytes ";)") 1000 [] 99 (halts 21 0 [])
+
+abbrev shortAt : ℕ → Example
+shortAt b = trial (bytes "('/0'" ++ b ∷ bytes ";)") 1000 [] 0 (halts 21 1 (pos 0 ∷ []))
+
+-- n values 1
+abbrev ones : ℕ → List ℤ
+ones n = replicate n (pos 1)
+
+-- a text that pushes 64 values and goes on with s, run with the inputs i
+abbrev over64 : List ℤ → String → Result → Example
+over64 i s r = trial (bytes "('/1'" ++ times 63 (bytes "P") ++ bytes s) 1000 i 0 r
+
+-- the numbers 20 to 28, what is left and counted where a run stops, and the order of stops
+abbrev pub stops : List Example
+stops =
+    -- 20, "steps equal the allowance and another step is due"; none is due at the finish
+    within 2 "('/5'N)" (ends true 2 (pos 5 ∷ []))
+    ∷ within 1 "('/5'N)" (halts 20 1 (pos 5 ∷ []))
+    ∷ within 1 "()" (ends false 1 [])
+    ∷ within 0 "()" (halts 20 0 [])
+    ∷ within 1 "(;)" (ends true 1 [])
+    ∷ within 0 "(;)" (halts 20 0 [])
+    ∷ within 0 "($1$)" (halts 20 0 [])
+    ∷ calling 3 "a" (bytes "(b;)") "b" (bytes "(;)") (ends true 3 [])
+    ∷ calling 2 "a" (bytes "(b;)") "b" (bytes "(;)") (halts 20 2 [])
+    ∷ calling 1 "a" (bytes "(b;)") "b" (bytes "(;)") (halts 20 1 [])
+    ∷ calling 0 "a" (bytes "(b;)") "b" (bytes "(;)") (halts 20 0 [])
+    -- 20 before what stops the mark
+    ∷ within 0 "(A;)" (halts 20 0 [])
+    ∷ within 0 "(N;)" (halts 20 0 [])
+    ∷ within 0 "(z;)" (halts 20 0 [])
+    -- 21, "too few values"; before 24 and 26
+    ∷ map emptyAt (bytes "AMLPON0J+-*/")
+    ++ map shortAt (bytes "J+-*/")
+    ++ once "(S1;)" (halts 21 0 [])
+    ∷ once "(O;)" (halts 21 0 [])
+    -- 22, "a push on 64": each mark that pushes; 25 before it; the input is not taken
+    ∷ over64 [] ";)" (ends true 65 (ones 64))
+    ∷ over64 [] "P;)" (halts 22 64 (ones 64))
+    ∷ over64 [] "'/1';)" (halts 22 64 (ones 64))
+    ∷ over64 [] "F1;)" (halts 22 64 (ones 64))
+    ∷ over64 (pos 5 ∷ []) "I;)" (halts 22 64 (ones 64))
+    ∷ over64 [] "I;)" (halts 25 64 (ones 64))
+    -- 23, "result outside the values"
+    ∷ once "('/999999998''/1'+;)" (ends true 4 (pos 999999999 ∷ []))
+    ∷ once "('/999999999''/1'+;)" (halts 23 2 (pos 999999999 ∷ pos 1 ∷ []))
+    ∷ once "('/-999999998''/1'-;)" (ends true 4 (neg 999999999 ∷ []))
+    ∷ once "('/-999999999''/1'-;)" (halts 23 2 (neg 999999999 ∷ pos 1 ∷ []))
+    ∷ once "('/333333333''/-3'*;)" (ends true 4 (neg 999999999 ∷ []))
+    ∷ once "('/500000000''/2'*;)" (halts 23 2 (pos 500000000 ∷ pos 2 ∷ []))
+    ∷ once "('/-999999999'P*;)" (halts 23 2 (neg 999999999 ∷ neg 999999999 ∷ []))
+    ∷ once "('/-999999999'M;)" (ends true 3 (pos 999999999 ∷ []))
+    ∷ once "('/-999999999'A;)" (ends true 3 (pos 999999999 ∷ []))
+    ∷ once "('/999999999'M;)" (ends true 3 (neg 999999999 ∷ []))
+    ∷ once "('/-999999999''/-1'/;)" (ends true 4 (pos 999999999 ∷ []))
+    -- 24, after 21 and before 23
+    ∷ once "('/1''/0'/;)" (halts 24 2 (pos 1 ∷ pos 0 ∷ []))
+    ∷ once "('/0''/0'/;)" (halts 24 2 (pos 0 ∷ pos 0 ∷ []))
+    ∷ once "('/0''/1'/;)" (ends true 4 (pos 0 ∷ []))
+    -- 25, "no input"
+    ∷ once "(I;)" (halts 25 0 [])
+    ∷ fed (pos 5 ∷ []) "(II;)" (took 1 (halts 25 1 (pos 5 ∷ [])))
+    -- 26, "the bytes of a print, `O` or `X` do not all fit": nothing of them is written
+    ∷ printing 11 "('/-5'O;)" (halts 26 1 (neg 5 ∷ []))
+    ∷ printing 0 "(X;)" (halts 26 0 [])
+    ∷ printing 2 "(''ab';)" (wrote "ab" (ends true 2 []))
+    ∷ printing 1 "(''ab';)" (halts 26 0 [])
+    ∷ printing 3 "(''ab'''cd';)" (wrote "ab" (halts 26 1 []))
+    ∷ printing 14 "('/-5'O''ab'XL;)" (wrote "          -5ab" (halts 26 3 (neg 5 ∷ [])))
+    -- 27, "call of a cleared letter"
+    ∷ once "(p;)" (halts 27 0 [])
+    ∷ both "(b;)" "('/1'c;)" (halts 27 2 (pos 1 ∷ []))
+    -- 28, "a 101st nested call", after 27
+    ∷ once "($100$t)" (ends true 251 [])
+    ∷ once "($101$t)" (halts 28 201 [])
+    ∷ once "($100$t;z)" (halts 27 201 [])
+    -- a stop in a callee, and what the run holds there
+    ∷ both "('/4'S2b;)" "(LL;)" (keeps (zeros 2 ++ pos 4 ∷ zeros 7) (halts 21 4 []))
     ∷ []
