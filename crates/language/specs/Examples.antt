@@ -222,10 +222,6 @@ lays t c = laidOut (bytes t) (pos 2000 ∷ c)
 abbrev fault : String → ℕ → Example
 fault t k = refusedAs (bytes t) k
 
--- a text in plain characters that is accepted
-abbrev accept : String → Example
-accept t = fault t 0
-
 -- a text run with an allowance, inputs and room for output
 abbrev trial : List ℕ → ℕ → List ℤ → ℕ → Result → Example
 trial t n i room r = gives (record { texts = ("t", t) ∷ []; letter = "t"; allowance = n; inputs = i; room = room }) r
@@ -283,123 +279,57 @@ starred =
 
 -- ── refusals of a text ──────────────────────────────────────────────────────────────────────────
 
--- the text `(`b`)` is refused as 3
-abbrev strayIn : ℕ → Example
-strayIn b = refusedAs (bytes "(" ++ b ∷ bytes ")") 3
+-- each of these texts is refused with the number k, or accepted where k is 0
+abbrev each : ℕ → List String → List Example
+each k ts = map (λ t. fault t k) ts
 
--- a text of one byte, or that byte after `()`, is refused as 3
-abbrev strayBefore : ℕ → Example
-strayBefore b = refusedAs (b ∷ []) 3
-
-abbrev strayAfter : ℕ → Example
-strayAfter b = refusedAs (bytes "()" ++ b ∷ []) 3
+-- so is each of these bytes between s and t
+abbrev eachByte : ℕ → String → String → List ℕ → List Example
+eachByte k s t bs = map (λ b. refusedAs (bytes s ++ b ∷ bytes t) k) bs
 
 -- the first bytes of all marks but `(`
 abbrev markBytes : List ℕ
 markBytes = bytes ");,:.ALMPOXI+-*/FSN0Jaz$'"
 
--- a comment and a print of one byte, accepted or refused
-abbrev commentOf : ℕ → ℕ → Example
-commentOf k b = refusedAs (bytes "(\"" ++ b ∷ bytes "\")") k
-
-abbrev printOf : ℕ → ℕ → Example
-printOf k b = refusedAs (bytes "(''" ++ b ∷ bytes "')") k
-
 -- the refusals 3, 5, 6 and 7 of a text's forms, and what is accepted beside them
 abbrev pub faults : List Example
 faults =
-    -- 3, "a byte that may not stand there": every plain byte that begins no mark, and the bytes around blank, newline and the last plain one
-    map strayIn (bytes "!#%&123456789<=>?@BCDEGHKQRTUVWYZ[\\]^_`{|}~")
-    ++ map strayIn (0 ∷ 9 ∷ 11 ∷ 31 ∷ 127 ∷ 128 ∷ 255 ∷ [])
-    -- "A text is one outermost expression": a mark before its `(` and after its `)`
-    ++ map strayBefore markBytes
-    ++ map strayAfter (bytes "(" ++ markBytes)
-    -- at its first byte, whatever its form
-    ++ fault "$0$()" 3
-    ∷ fault "'/x()" 3
-    ∷ fault "F1()" 3
-    ∷ fault "()$x" 3
-    ∷ fault "()'/x" 3
-    ∷ fault "()''" 3
-    ∷ fault "()x\"" 3
-    -- "with only blanks, newlines and comments around it", and between marks
-    ∷ accept "\n \"a(\" (\n;\"b\" \" \n\"\"\") \n\"\""
-    -- "With a digit after, no blank between": the bytes around the digits as well
-    ∷ fault "(F)" 3
-    ∷ fault "(S)" 3
-    ∷ fault "(F 1)" 3
-    ∷ fault "(S/)" 3
-    ∷ fault "(F:)" 3
-    ∷ accept "(F0S1F2S3F4S5F6S7F8S9)"
+    -- 3, "a byte that may not stand there": every plain byte that begins no mark, and the bytes beside newline, blank and the last plain one
+    eachByte 3 "(" ")" (bytes "!#%&123456789<=>?@BCDEGHKQRTUVWYZ[\\]^_`{|}~" ++ 0 ∷ 9 ∷ 11 ∷ 31 ∷ 127 ∷ 128 ∷ 255 ∷ [])
+    -- "A text is one outermost expression": a mark before its `(` and after its `)`, by its first byte, whatever its form
+    ++ eachByte 3 "" "" markBytes
+    ++ eachByte 3 "()" "" (bytes "(" ++ markBytes)
+    ++ each 3 ("A()" ∷ "$1$()" ∷ "$0$()" ∷ "'/1'()" ∷ "'/x()" ∷ "F1()" ∷ "()$x" ∷ "()'/x" ∷ "()''" ∷ "()x\"" ∷ [])
+    -- "with only blanks, newlines and comments around it"
+    ++ each 0 ("\n \"a(\" (\n;\"b\" \" \n\"\"\") \n\"\"" ∷ [])
+    -- "With a digit after, no blank between: `F S`": each digit, and the bytes beside them
+    ++ each 0 ("(F0S1F2S3F4S5F6S7F8S9)" ∷ [])
+    ++ each 3 ("(F)" ∷ "(S)" ∷ "(F 1)" ∷ "(S/)" ∷ "(F:)" ∷ [])
     -- after `'` comes `/` or `'`
-    ∷ fault "('x)" 3
-    ∷ fault "('1')" 3
-    ∷ fault "('-1')" 3
-    ∷ fault "(' '/1')" 3
-    -- a comment has "bytes 32 to 126 or 10 other than `"`", a print "bytes 32 to 126 other than `'`"
-    ∷ map (commentOf 3) (9 ∷ 11 ∷ 31 ∷ 127 ∷ [])
-    ++ map (commentOf 0) (10 ∷ 32 ∷ 33 ∷ 35 ∷ 39 ∷ 126 ∷ [])
-    ++ map (printOf 3) (9 ∷ 10 ∷ 11 ∷ 31 ∷ 127 ∷ [])
-    ++ map (printOf 0) (32 ∷ 34 ∷ 38 ∷ 40 ∷ 126 ∷ [])
-    ++ fault "(\"\"\")" 7
-    ∷ fault "('''')" 3
-    ∷ accept "(''')"
+    ++ each 3 ("('x)" ∷ "('1')" ∷ "('-1')" ∷ "(' '/1')" ∷ [])
+    -- a comment has "bytes 32 to 126 or 10 other than `"`"
+    ++ eachByte 0 "(\"" "\")" (10 ∷ 32 ∷ 33 ∷ 35 ∷ 39 ∷ 126 ∷ [])
+    ++ eachByte 3 "(\"" "\")" (9 ∷ 11 ∷ 31 ∷ 127 ∷ [])
+    ++ each 7 ("(\"\"\")" ∷ [])
+    -- a print has "bytes 32 to 126 other than `'`"
+    ++ eachByte 0 "(''" "')" (32 ∷ 34 ∷ 38 ∷ 40 ∷ 126 ∷ [])
+    ++ eachByte 3 "(''" "')" (9 ∷ 10 ∷ 11 ∷ 31 ∷ 127 ∷ [])
+    ++ each 0 ("(''')" ∷ [])
+    ++ each 3 ("('''')" ∷ [])
     -- 5: "`$`, 1 to 4 digits, `$`; its number is 1 or more"
-    ∷ fault "($x$)" 5
-    ∷ fault "($1x$)" 5
-    ∷ fault "($$)" 5
-    ∷ fault "($0$)" 5
-    ∷ fault "($0000$)" 5
-    ∷ fault "($10000$)" 5
-    ∷ fault "($ 1$)" 5
-    ∷ fault "($1 $)" 5
-    ∷ fault "($-1$)" 5
-    ∷ fault "($/$)" 5
-    ∷ fault "($1:$)" 5
-    ∷ fault "($1'" 5
-    ∷ accept "($1$$0001$$9999$$2345$$678$$90$)"
+    ++ each 0 ("($1$$0001$$9999$$2345$$678$$90$)" ∷ [])
+    ++ each 5 ("($x$)" ∷ "($1x$)" ∷ "($$)" ∷ "($0$)" ∷ "($0000$)" ∷ "($10000$)" ∷ "($ 1$)" ∷ "($1 $)" ∷ "($-1$)" ∷ "($/$)" ∷ "($1:$)" ∷ "($1'" ∷ [])
     -- 6: "`'/`, perhaps `-`, 1 to 9 digits, `'`"
-    ∷ fault "('/x')" 6
-    ∷ fault "('/1x')" 6
-    ∷ fault "('/-x')" 6
-    ∷ fault "('/')" 6
-    ∷ fault "('/-')" 6
-    ∷ fault "('/--1')" 6
-    ∷ fault "('/+1')" 6
-    ∷ fault "('/1-')" 6
-    ∷ fault "('/ 1')" 6
-    ∷ fault "('/1 ')" 6
-    ∷ fault "('//')" 6
-    ∷ fault "('/1:')" 6
-    ∷ fault "('/1$" 6
-    ∷ fault "('/1000000000')" 6
-    ∷ fault "('/-0000000001')" 6
-    ∷ accept "('/0''/-0''/999999999''/-999999999''/000000001''/123456789')"
+    ++ each 0 ("('/0''/-0''/999999999''/-999999999''/000000001''/123456789')" ∷ [])
+    ++ each 6 ("('/x')" ∷ "('/1x')" ∷ "('/-x')" ∷ "('/')" ∷ "('/-')" ∷ "('/--1')" ∷ "('/+1')" ∷ "('/1-')" ∷ "('/ 1')" ∷ "('/1 ')" ∷ [])
+    ++ each 6 ("('//')" ∷ "('/1:')" ∷ "('/1$" ∷ "('/1000000000')" ∷ "('/-0000000001')" ∷ [])
     -- 7, "the text ends before its grammar does": before the `(`, between marks and inside each mark
-    ∷ fault "" 7
-    ∷ fault " \n\"a\"" 7
-    ∷ fault "\"" 7
-    ∷ fault "(" 7
-    ∷ fault "(()" 7
-    ∷ fault "(A;:" 7
-    ∷ fault "(\"a" 7
-    ∷ fault "(F" 7
-    ∷ fault "(S" 7
-    ∷ fault "($" 7
-    ∷ fault "($0" 7
-    ∷ fault "('" 7
-    ∷ fault "('/" 7
-    ∷ fault "('/-" 7
-    ∷ fault "('/1" 7
-    ∷ fault "(''" 7
-    ∷ fault "(''a" 7
-    ∷ fault "()\"" 7
+    ++ each 7 ("" ∷ " \n\"a\"" ∷ "\"" ∷ "(" ∷ "(()" ∷ "(A;:" ∷ "(\"a" ∷ "(F" ∷ "(S" ∷ "($" ∷ "($0" ∷ [])
+    ++ each 7 ("('" ∷ "('/" ∷ "('/-" ∷ "('/1" ∷ "(''" ∷ "(''a" ∷ "()\"" ∷ [])
     -- "the text left to right": the first fault's number
-    ∷ fault "(#'/x" 3
-    ∷ fault "('/x#" 6
-    ∷ fault "($x'/x" 5
-    ∷ fault "(('/x')" 6
-    ∷ []
+    ++ each 3 ("(#'/x" ∷ [])
+    ++ each 6 ("('/x#" ∷ "('/x($x" ∷ [])
+    ++ each 5 ("($x'/x" ∷ [])
 
 -- ── limits ──────────────────────────────────────────────────────────────────────────────────────
 
@@ -407,107 +337,85 @@ faults =
 abbrev counters : ℕ → List ℕ
 counters n = bytes "(" ++ times n (bytes "$1$")
 
--- the beginning of a text whose cells 2 to 249 are used, by 124 marks of two cells; to 250
+-- the beginning of a text with n marks of two cells, after the bytes t
+abbrev tests : List ℕ → ℕ → List ℕ
+tests t n = t ++ times n (bytes "N")
+
+-- the beginning of a text whose cells 2 to 249 are used; 2 to 250
 abbrev to249 : List ℕ
-to249 = bytes "(" ++ times 124 (bytes "N")
+to249 = tests (bytes "(") 124
 
 abbrev to250 : List ℕ
 to250 = to249 ++ bytes "A"
 
--- the beginning of a text with 16 counters whose cells 2 to 247 are used, so that a counter would need cell 251
-abbrev brimming : List ℕ
-brimming = counters 16 ++ times 91 (bytes "N")
+-- the beginning of a text with 16 counters, or 15, whose cells 2 to 247 are used, so that one more counter would need cell 251
+abbrev brim16 : List ℕ
+brim16 = tests (counters 16) 91
 
--- the same with 15 counters
-abbrev brimming15 : List ℕ
-brimming15 = counters 15 ++ times 93 (bytes "N")
+abbrev brim15 : List ℕ
+brim15 = tests (counters 15) 93
 
--- after such a beginning the bytes of s, and the number
-abbrev then : List ℕ → String → ℕ → Example
-then t s k = refusedAs (t ++ bytes s) k
+-- a print of n bytes at the beginning of a text
+abbrev printOf : ℕ → List ℕ
+printOf n = bytes "(''" ++ times n (bytes "x") ++ bytes "'"
 
--- a text of n levels
-abbrev nested : ℕ → List ℕ
-nested n = times n (bytes "(") ++ times n (bytes ")")
+-- a text of blanks in a pair, n bytes in all
+abbrev blanks : ℕ → List ℕ
+blanks n = bytes "(" ++ times (n - 2) (bytes " ") ++ bytes ")"
+
+-- the beginning of a text with n levels
+abbrev levels : ℕ → List ℕ
+levels n = times n (bytes "(")
+
+-- after the beginning t, each of these is refused with the number k, or accepted where k is 0
+abbrev upon : ℕ → List ℕ → List String → List Example
+upon k t ss = map (λ s. refusedAs (t ++ bytes s) k) ss
 
 -- the limits of a text, on both sides, and the order at one mark: "its form (3, 5, 6, 7) comes before 9, and 9 before 8"
 abbrev pub limits : List Example
 limits =
     -- 2, "over 256 bytes", before "the text left to right"
-    refusedAs (bytes "(" ++ times 254 (bytes " ") ++ bytes ")") 0
-    ∷ refusedAs (bytes "(" ++ times 255 (bytes " ") ++ bytes ")") 2
+    refusedAs (blanks 256) 0
+    ∷ refusedAs (blanks 257) 2
     ∷ refusedAs (times 256 (bytes "#")) 3
     ∷ refusedAs (times 257 (bytes "#")) 2
     -- 4, "an 11th level", before anything later
-    ∷ refusedAs (nested 10) 0
-    ∷ refusedAs (nested 11) 4
-    ∷ then (times 10 (bytes "(")) "#(" 3
-    ∷ then (times 11 (bytes "(")) "#" 4
-    ∷ then (times 11 (bytes "(")) "" 4
-    ∷ then (to250 ++ times 10 (bytes "(")) "A" 4
-    ∷ then (times 9 (bytes "(")) "()()()))))))))))" 3
-    ∷ then (times 9 (bytes "(")) "()()())))))))))" 0
+    ∷ upon 0 (levels 10) ("))))))))))" ∷ ")()()())))))))))" ∷ [])
+    ++ upon 3 (levels 10) ("#(" ∷ [])
+    ++ upon 4 (levels 11) (")))))))))))" ∷ "#" ∷ "" ∷ [])
+    ++ upon 4 (to250 ++ levels 10) ("A" ∷ [])
     -- 9, "a 17th"
-    ∷ then (counters 16) ")" 0
-    ∷ then (counters 16) "$1$)" 9
-    ∷ then (counters 16) "$1$#" 9
-    ∷ then (counters 16) "#$1$" 3
+    ++ upon 0 (counters 16) (")" ∷ [])
+    ++ upon 3 (counters 16) ("#$1$" ∷ [])
+    ++ upon 9 (counters 16) ("$1$)" ∷ "$1$#" ∷ [])
     -- 8, "a mark needs cell 251": each kind of mark
-    ∷ then to250 "A" 8
-    ∷ then to250 "F1" 8
-    ∷ then to250 "N" 8
-    ∷ then to250 "a" 8
-    ∷ then to250 "$1$" 8
-    ∷ then to250 "'/1'" 8
-    ∷ then to250 "'''" 8
-    ∷ then to250 ";" 8
-    ∷ then to250 ":" 8
-    ∷ then to250 "()" 8
-    ∷ then to250 ")" 8
-    ∷ then to250 "A#" 8
-    -- cell 250 is still there: what comes after the mark is the first fault
-    ∷ then to249 "A#" 3
-    ∷ then to249 ";#" 3
-    ∷ then to249 ":#" 3
-    ∷ then to249 "()#" 3
-    ∷ then to249 "F1" 8
-    ∷ then to249 "0" 8
-    ∷ then to249 "z" 8
-    ∷ then to249 "'/1'" 8
-    ∷ then to249 "'''" 8
+    ++ upon 8 to250 ("A" ∷ "F1" ∷ "N" ∷ "a" ∷ "$1$" ∷ "'/1'" ∷ "'''" ∷ ";" ∷ ":" ∷ "()" ∷ ")" ∷ "A#" ∷ [])
+    ++ upon 8 to249 ("F1" ∷ "N" ∷ "a" ∷ "$1$" ∷ "'/1'" ∷ "'''" ∷ [])
+    -- cell 250 is there: what comes after the mark is the first fault
+    ++ upon 3 to249 ("A#" ∷ ";#" ∷ ":#" ∷ "()#" ∷ [])
+    ++ upon 3 brim15 ("F1#" ∷ "N#" ∷ "a#" ∷ "'/1'#" ∷ "''x'#" ∷ [])
+    -- a print's bytes are cells
+    ++ upon 0 (printOf 245) (")" ∷ [])
+    ++ upon 8 (printOf 246) (")" ∷ [])
+    ++ upon 3 (printOf 247) ("#" ∷ [])
+    ++ upon 8 (printOf 248) ("#" ∷ [])
     -- "last `)`: both its cells"
-    ∷ then to249 ")" 8
-    ∷ then (bytes "(A" ++ times 123 (bytes "N")) ")" 0
-    ∷ then (bytes "(AA" ++ times 123 (bytes "N")) ")" 8
-    -- a print of 245 bytes fills 250 cells
-    ∷ then (bytes "(''" ++ times 245 (bytes "x")) "')" 0
-    ∷ then (bytes "(''" ++ times 246 (bytes "x")) "')" 8
-    ∷ then (bytes "(''" ++ times 247 (bytes "x")) "'#" 3
-    ∷ then (bytes "(''" ++ times 248 (bytes "x")) "'#" 8
+    ++ upon 8 to249 (")" ∷ [])
+    ++ upon 0 (tests (bytes "(A") 123) (")" ∷ [])
+    ++ upon 8 (tests (bytes "(AA") 123) (")" ∷ [])
     -- the form before 8
-    ∷ then to250 "Fx" 3
-    ∷ then to250 "'x" 3
-    ∷ then to250 "''\n" 3
-    ∷ then to250 "#" 3
-    ∷ then to250 "$0$" 5
-    ∷ then to250 "$x" 5
-    ∷ then to250 "'/x" 6
-    ∷ then to250 "F" 7
-    ∷ then to250 "$1" 7
-    ∷ then to250 "'/1" 7
-    ∷ then to250 "''x" 7
-    ∷ then to250 "" 7
+    ++ upon 3 to250 ("Fx" ∷ "'x" ∷ "''\n" ∷ "#" ∷ [])
+    ++ upon 5 to250 ("$0$" ∷ "$x" ∷ [])
+    ++ upon 6 to250 ("'/x" ∷ [])
+    ++ upon 7 to250 ("F" ∷ "$1" ∷ "'/1" ∷ "''x" ∷ "" ∷ [])
     -- the form before 9
-    ∷ then (counters 16) "$x" 5
-    ∷ then (counters 16) "$0$" 5
-    ∷ then (counters 16) "$12345" 5
-    ∷ then (counters 16) "$1" 7
-    -- 9 before 8
-    ∷ then brimming "$1$" 9
-    ∷ then brimming15 "$1$" 8
-    ∷ then brimming "$0$" 5
-    ∷ then brimming "$1" 7
-    ∷ []
+    ++ upon 5 (counters 16) ("$x" ∷ "$0$" ∷ "$12345" ∷ [])
+    ++ upon 7 (counters 16) ("$1" ∷ [])
+    -- 9 before 8, the form before both
+    ++ upon 9 brim16 ("$1$" ∷ [])
+    ++ upon 8 brim15 ("$1$" ∷ [])
+    ++ upon 5 brim16 ("$0$" ∷ [])
+    ++ upon 7 brim16 ("$1" ∷ [])
 
 -- ── the code table ──────────────────────────────────────────────────────────────────────────────
 
