@@ -5,8 +5,8 @@ use Rattle.language.specs.Effects.{perform, ask}
 use Rattle.language.specs.Machine.{decode}
 use Rattle.book.specs.Book.{freshBook, bookCall}
 use Rattle.book.specs.Store.{freshStore, storeCall}
-use Rattle.book.specs.History.{answers}
-use Rattle.book.specs.Examples.{Hold, HoldLent, HoldFound, sessions, lendings, damaged, spoilt}
+use Rattle.book.specs.History.{answers, after}
+use Rattle.book.specs.Examples.{Hold, HoldLent, HoldKept, HoldFound, sessions, lendings, keepings, damaged, spoilt}
 
 pub sessions-hold : Hold sessions
 unfolding freshBook freshStore answers bookCall storeCall isValue perform ask decode
@@ -15,6 +15,10 @@ sessions-hold = refl
 pub lendings-hold : HoldLent lendings
 unfolding freshBook freshStore answers bookCall storeCall isValue perform ask decode
 lendings-hold = refl
+
+pub keepings-hold : HoldKept keepings
+unfolding freshStore after storeCall isValue perform ask decode
+keepings-hold = refl
 
 pub damaged-hold : HoldFound damaged
 unfolding storeCall isValue perform ask decode

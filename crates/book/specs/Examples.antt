@@ -12,8 +12,8 @@ use Rattle.language.specs.Examples.{bytes, times, neg, zeros, fresh, Result, si
 use Rattle.book.specs.Calls.{Call, defines, withdraws, running}
 use Rattle.book.specs.Replies.{Reply}
 use Rattle.book.specs.Book.{freshBook}
-use Rattle.book.specs.Store.{Store, storeOf, freshStore, storeCall}
-use Rattle.book.specs.History.{storeAnswers, bookAnswers}
+use Rattle.book.specs.Store.{Store, storeOf, freshStore, entryAt, storeCall}
+use Rattle.book.specs.History.{storeAnswers, storeAfter, bookAnswers}
 
 -- ── calls ───────────────────────────────────────────────────────────────────────────────────────
 
@@ -164,7 +164,7 @@ dueLeft x = (x .left, x .left)
 abbrev pub HoldLent : List Lending → Type 0
 HoldLent xs = map leaving xs ≡ map dueLeft xs
 
--- a run of `w`, and one with these list places
+-- a run of `w` that lends these list places and three bytes
 abbrev wRun : List ℤ → Call
 wRun p = running (code "w") 9 [] p (bytes "xyz")
 
@@ -177,6 +177,43 @@ lendings =
           ([], []) ∷ (pos 5 ∷ zeros 63, bytes "abz") ∷ ([], []) ∷ (pos 5 ∷ zeros 63, bytes "abz") ∷ (sevens 2, bytes "xyz")
           ∷ ([], []) ∷ (sevens 64, bytes "xyz") ∷ [];
     }
+    ∷ []
+
+-- ── what a store keeps ──────────────────────────────────────────────────────────────────────────
+
+-- calls from the fresh store, and the used cells of a letter after them, a as 0; a cleared letter has none
+pub record Keeping : Type 0 where
+  pub calls : List Call
+  pub letter : ℕ
+  pub cells : List ℤ
+
+-- how many cells, counts and variables a store has, and of a letter its count and cells
+abbrev pub sizes : Store → List ℕ
+sizes st = length (st .cells) ∷ length (st .used) ∷ length (st .variables) ∷ []
+
+-- what the store keeps
+abbrev pub keptIn : Store → ℕ → List ℕ × ℕ × List ℤ
+keptIn st a = (sizes st, entryAt st a .table .used, entryAt st a .table .cells)
+
+-- what calls leave
+abbrev pub kept : Keeping → List ℕ × ℕ × List ℤ
+kept x = keptIn (storeAfter freshStore (x .calls)) (x .letter)
+
+-- what they should leave: "26 letters' tables with their used-cell counts, and ten variables", each table of 250 cells
+abbrev pub dueKept : Keeping → List ℕ × ℕ × List ℤ
+dueKept x = (6500 ∷ 26 ∷ 10 ∷ [], length (x .cells), x .cells ++ zeros (250 - length (x .cells)))
+
+-- every list of calls leaves what it should
+abbrev pub HoldKept : List Keeping → Type 0
+HoldKept xs = map kept xs ≡ map dueKept xs
+
+-- "Define replaces a letter's table. Withdraw clears it to 0. The used-cell count is replaced or cleared with the table"
+abbrev pub keepings : List Keeping
+keepings =
+    record { calls = []; letter = 25; cells = [] }
+    ∷ record { calls = D "z" "(A;)" ∷ D "z" "(;)" ∷ R "z" 9 [] ∷ []; letter = 25; cells = pos 2000 ∷ pos 4 ∷ pos 0 ∷ pos 1 ∷ [] }
+    ∷ record { calls = D "z" "(;)" ∷ D "y" "()" ∷ D "z" "(" ∷ []; letter = 24; cells = pos 2000 ∷ pos 0 ∷ pos 1 ∷ [] }
+    ∷ record { calls = D "a" "(;)" ∷ X "a" ∷ []; letter = 0; cells = [] }
     ∷ []
 
 -- ── damaged stores ──────────────────────────────────────────────────────────────────────────────
@@ -316,6 +353,8 @@ damaged =
     ∷ over (neg 167 ∷ pos 1 ∷ pos 126 ∷ tail) 0 2
     ∷ over (neg 167 ∷ pos 1 ∷ pos 127 ∷ tail) 29 0
     ∷ over (neg 167 ∷ pos 2 ∷ pos 97 ∷ pos 10 ∷ tail) 29 0
+    -- "Cell 1 holds 2000 and no run reads it."
+    ∷ probe (storeOf (pos 0 ∷ pos 4 ∷ tail) (4 ∷ []) fresh) "a" 9 0 1
     -- a table of 250 cells
     ∷ over (pos 250 ∷ zeros 247 ++ pos 1 ∷ []) 0 1
     ∷ over (pos 250 ∷ zeros 247 ++ pos 2 ∷ []) 29 1
