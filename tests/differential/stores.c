@@ -316,9 +316,9 @@ static bool counts(bool directed, bool full)
         good = numbers_met(&tally, &must_directed, 5);
         good &= clauses_met(5);
     } else {
-        good = numbers_met(&tally, &must, full ? 30 : 0);
-        good &= clauses_met(full ? 30 : 0);
-        good &= runs_met(&tally, full ? 50 : 0);
+        good = numbers_met(&tally, &must, full ? 20 : 0);
+        good &= clauses_met(full ? 20 : 0);
+        good &= runs_met(&tally, full ? 20 : 0);
     }
     memset(&tally, 0, sizeof tally);
     return good;
