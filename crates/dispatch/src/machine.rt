@@ -3,7 +3,6 @@ ghost use Rattle.operands.specs.Held.{held};
 ghost use Rattle.dispatch.specs.Turning.{Turning, Turned};
 use arithmetic::BinaryOperator;
 use arithmetic::UnaryOperator;
-use instructions::output as paper;
 use instructions::stack;
 use instructions::stack::Access;
 use language::CONSTANT_CODE;

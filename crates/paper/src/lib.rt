@@ -10,7 +10,7 @@ ghost use Rattle.operands.specs.Held.{printing, writing};
 ghost use Rattle.operands.specs.Operands.{printsFrom};
 ghost use Rattle.operands.specs.Turns.{Turns, operatorTurn, markAt};
 ghost use Rattle.operands.specs.Ready.{Writing, Printing};
-ghost use Rattle.instructions.specs.Copies.{Copying};
+ghost use Rattle.paper.specs.Copies.{Copying};
 use language::Ending;
 use language::HEIGHT;
 use language::STORE_CELLS;

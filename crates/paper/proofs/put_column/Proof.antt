@@ -1,8 +1,8 @@
--- `instructions::output::put_column` meets its contract.
+-- `paper::put_column` meets its contract.
 use mir.Facts.{toZ-ofZ}
 use borrow.Author.Needs.{needs}
-use Rattle.instructions.proofs.output.put_column.Statement.{statement}
-use Rattle.instructions.proofs.output.put_column.Tie as tie
+use Rattle.paper.proofs.put_column.Statement.{statement}
+use Rattle.paper.proofs.put_column.Tie as tie
 
 returns : tie.Need-returns
 returns c =

@@ -1,4 +1,4 @@
--- `instructions::output::newline` meets its contract.
+-- `paper::newline` meets its contract.
 use Prim.Native.Nat.{_+_}
 use native.Mathlib.Omega.{arith}
 use lib.ListN.{length}
@@ -6,9 +6,9 @@ use denote.Ref.{now}
 use borrow.Author.Tests.{le-leb, lt-leb, eq-eqb, ne-eqb}
 use borrow.Author.Needs.{needs}
 use Rattle.language.specs.Effects.{perform}
-use Rattle.instructions.proofs.Effects.{paste-one}
-use Rattle.instructions.proofs.output.newline.Statement.{statement}
-use Rattle.instructions.proofs.output.newline.Tie as tie
+use Rattle.paper.proofs.Effects.{paste-one}
+use Rattle.paper.proofs.newline.Statement.{statement}
+use Rattle.paper.proofs.newline.Tie as tie
 
 returns : tie.Need-returns
 returns c = λ h. rw (c .stop .ensures, eq-eqb _ _ (c .before .if1 .taken))
