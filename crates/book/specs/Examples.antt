@@ -134,10 +134,10 @@ sessions =
           plainly 0 ∷ took 1 (ends true 2 (pos 999999999 ∷ [])) ∷ took 1 (ends true 2 (neg 999999999 ∷ [])) ∷ plainly 11
           ∷ plainly 11 ∷ plainly 12 ∷ plainly 12 ∷ took 1 (ends true 2 (pos 1 ∷ [])) ∷ [];
     }
-    -- output bytes, finished and stopped
+    -- output bytes, finished, stopped and refused
     ∷ record {
-      calls = D "w" "(''ab'''cd';)" ∷ W "w" "xxxxx" ∷ W "w" "xxx" ∷ W "w" "x" ∷ [];
-      results = plainly 0 ∷ wrote "abcd" (ends true 3 []) ∷ wrote "ab" (halts 26 1 []) ∷ halts 26 0 [] ∷ [];
+      calls = D "w" "(''ab'''cd';)" ∷ W "w" "xxxxx" ∷ W "w" "xxx" ∷ W "w" "x" ∷ W "v" "x" ∷ [];
+      results = plainly 0 ∷ wrote "abcd" (ends true 3 []) ∷ wrote "ab" (halts 26 1 []) ∷ halts 26 0 [] ∷ plainly 10 ∷ [];
     }
     ∷ []
 
@@ -172,9 +172,9 @@ wRun p = running (code "w") 9 [] p (bytes "xyz")
 abbrev pub lendings : List Lending
 lendings =
     record {
-      calls = D "w" "('/5''/6'L''ab';)" ∷ wRun (sevens 64) ∷ D "w" "('/5'''ab'I;)" ∷ wRun (sevens 64) ∷ wRun (sevens 2) ∷ X "w" ∷ wRun (sevens 64) ∷ [];
+      calls = D "w" "('/5''/6''/7'L+''ab';)" ∷ wRun (sevens 64) ∷ D "w" "('/5'''ab'I;)" ∷ wRun (sevens 64) ∷ wRun (sevens 2) ∷ X "w" ∷ wRun (sevens 64) ∷ [];
       left =
-          ([], []) ∷ (pos 5 ∷ zeros 63, bytes "abz") ∷ ([], []) ∷ (pos 5 ∷ zeros 63, bytes "abz") ∷ (sevens 2, bytes "xyz")
+          ([], []) ∷ (pos 11 ∷ zeros 63, bytes "abz") ∷ ([], []) ∷ (pos 5 ∷ zeros 63, bytes "abz") ∷ (sevens 2, bytes "xyz")
           ∷ ([], []) ∷ (sevens 64, bytes "xyz") ∷ [];
     }
     ∷ []
@@ -288,8 +288,10 @@ damaged =
     ∷ over (pos 2 ∷ pos 1 ∷ []) 29 0
     ∷ over (pos 3 ∷ pos 1 ∷ []) 29 0
     ∷ over (neg 88 ∷ pos 1 ∷ []) 29 0
-    -- "a negative that is no code"
+    -- "a negative that is no code", before what would do for a mark with a digit or a false, for a constant or a print, for a counter
     ∷ map (λ b. over (neg b ∷ pos 3 ∷ pos 3 ∷ pos 3 ∷ pos 3 ∷ tail) 29 0) noCodes
+    ++ map (λ b. over (neg b ∷ pos 0 ∷ tail) 29 0) noCodes
+    ++ map (λ b. over (neg b ∷ neg 1 ∷ pos 0 ∷ pos 7 ∷ tail) 29 0) noCodes
     -- "a mark with a cell after used - 2": an operator has none; `F`, `S`, a constant, a print's length and bytes, a condition, a counter, a call
     ++ over (neg 88 ∷ tail) 0 2
     ∷ over (neg 70 ∷ pos 1 ∷ tail) 0 2

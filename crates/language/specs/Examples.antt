@@ -12,7 +12,7 @@ use lib.ListN.{length, take, replicate}
 use lib.Dec.{eqb}
 use Rattle.language.specs.declared.Table.{Table}
 use Rattle.language.specs.declared.Ending.the-variants.{NoText}
-use Rattle.language.specs.Answers.{refusalNumber, endingNumber}
+use Rattle.language.specs.Answers.{refusalNumber, isRefusal, endingNumber}
 use Rattle.language.specs.Letters.{letterIndex}
 use Rattle.language.specs.Syntax.{Expr}
 use Rattle.language.specs.Reading.{Reading, refused, accepted, read, exprOf}
@@ -172,12 +172,13 @@ machined x =
 -- ── examples ────────────────────────────────────────────────────────────────────────────────────
 
 -- A text's table, all 250 cells of it, where these are used; the number that a text is refused with, 0 if it is accepted; a run's result, by the
--- nested meaning and by the table machine; what a cell of a table says.
+-- nested meaning and by the table machine; what a cell of a table says; whether a number refuses.
 pub data Example : Type 0 where
   laidOut : List ℕ → List ℤ → Example
   refusedAs : List ℕ → ℕ → Example
   gives : Trial → Result → Example
   decodes : Table → ℕ → Decoded → Example
+  refuses : ℕ → Bool → Example
 
 -- the used cells and all cells of an accepted text
 abbrev pub tableIn : Reading → ℕ × List ℤ
@@ -195,6 +196,7 @@ pub data Given : Type 0 where
   number : ℕ → Given
   results : Result → Result → Given
   decoded : Decoded → Given
+  refusing : Bool → Given
 
 -- what an example gives
 abbrev pub given : Example → Given
@@ -202,6 +204,7 @@ given (laidOut t c) = table (tableIn (read t))
 given (refusedAs t k) = number (numberIn (read t))
 given (gives x r) = results (resultOf (x .allowance) (meant x)) (resultOf (x .allowance) (machined x))
 given (decodes t q d) = decoded (decode t q)
+given (refuses k b) = refusing (isRefusal k)
 
 -- what it should give; "The other cells of the letter's 250 are 0."
 abbrev pub due : Example → Given
@@ -209,6 +212,7 @@ due (laidOut t c) = table (length c, c ++ zeros (250 - length c))
 due (refusedAs t k) = number k
 due (gives x r) = results r r
 due (decodes t q d) = decoded d
+due (refuses k b) = refusing b
 
 -- every example gives what it should
 abbrev pub Hold : List Example → Type 0
@@ -222,7 +226,7 @@ lays t c = laidOut (bytes t) (pos 2000 ∷ c)
 abbrev fault : String → ℕ → Example
 fault t k = refusedAs (bytes t) k
 
--- a text run with an allowance, inputs and room for output
+-- a text under the letter t, run with an allowance, inputs and room for output
 abbrev trial : List ℕ → ℕ → List ℤ → ℕ → Result → Example
 trial t n i room r = gives (record { texts = ("t", t) ∷ []; letter = "t"; allowance = n; inputs = i; room = room }) r
 
@@ -330,6 +334,13 @@ faults =
     ++ each 3 ("(#'/x" ∷ [])
     ++ each 6 ("('/x#" ∷ "('/x($x" ∷ [])
     ++ each 5 ("($x'/x" ∷ [])
+    -- "Finished is 0. Numbers 1 to 14 refuse; 20 to 29 end a run."
+    ++ refuses 0 false
+    ∷ refuses 1 true
+    ∷ refuses 14 true
+    ∷ refuses 15 false
+    ∷ refuses 20 false
+    ∷ []
 
 -- ── limits ──────────────────────────────────────────────────────────────────────────────────────
 
