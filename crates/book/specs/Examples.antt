@@ -1,10 +1,10 @@
 -- Worked examples of calls, from the bytes of the texts on: lists of calls of book and store, and single calls of stores whose cells, counts or
 -- variables are damaged. Every figure is written out here and none is taken from a definition.
 use mathlib.Core.Path.{_≡_}
-use Prim.Native.Nat.{ℕ, suc, _-_}
+use Prim.Native.Nat.{ℕ, zero, suc, _-_}
 use Prim.Native.Char.{Char, code}
 use Prim.Native.String.{String}
-use mathlib.Core.Bool.{Bool, true, false}
+use mathlib.Core.Bool.{true, false}
 use mathlib.Core.List.{List, [], _∷_, _++_, map}
 use lib.IntN.{ℤ, pos}
 use lib.ListN.{length, take, replicate}
@@ -21,19 +21,23 @@ use Rattle.book.specs.History.{storeAnswers, storeAfter, bookAnswers}
 abbrev sevens : ℕ → List ℤ
 sevens n = replicate n (pos 7)
 
--- a call: define, withdraw; run with an allowance and inputs, that lends other list places, or output bytes
+-- define letter l as the text t
 abbrev D : Char → String → Call
 D l t = defines (code l) (bytes t)
 
+-- withdraw letter l
 abbrev X : Char → Call
 X l = withdraws (code l)
 
+-- run letter l with allowance n and inputs i, lending the list places p
 abbrev R′ : Char → ℕ → List ℤ → List ℤ → Call
 R′ l n i p = running (code l) n i p []
 
+-- the same lending 64 places
 abbrev R : Char → ℕ → List ℤ → Call
 R l n i = R′ l n i (sevens 64)
 
+-- run letter l lending the output bytes o
 abbrev W : Char → String → Call
 W l o = running (code l) 1000 [] (sevens 64) (bytes o)
 
@@ -259,10 +263,10 @@ tail = pos 0 ∷ pos 1 ∷ []
 
 -- the numbers from m on, n of them
 abbrev from : ℕ → ℕ → List ℕ
-from m Prim.Native.Nat.zero = []
+from m zero = []
 from m (suc n) = m ∷ from (suc m) n
 
--- all that are no code between and beside the codes
+-- the numbers to 176 that are no code, and 2000
 abbrev noCodes : List ℕ
 noCodes =
     from 1 35 ++ from 37 5 ++ 44 ∷ 46 ∷ from 49 16 ++ from 66 4 ++ 71 ∷ 72 ∷ 75 ∷ 81 ∷ 82 ∷ from 84 4 ++ from 89 8 ++ from 123 44 ++ from 168 7

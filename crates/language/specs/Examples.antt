@@ -352,17 +352,19 @@ counters n = bytes "(" ++ times n (bytes "$1$")
 abbrev tests : List ℕ → ℕ → List ℕ
 tests t n = t ++ times n (bytes "N")
 
--- the beginning of a text whose cells 2 to 249 are used; 2 to 250
+-- the beginning of a text whose cells 2 to 249 are used
 abbrev to249 : List ℕ
 to249 = tests (bytes "(") 124
 
+-- 2 to 250
 abbrev to250 : List ℕ
 to250 = to249 ++ bytes "A"
 
--- the beginning of a text with 16 counters, or 15, whose cells 2 to 247 are used, so that one more counter would need cell 251
+-- the beginning of a text with 16 counters whose cells 2 to 247 are used, so that one more counter would need cell 251
 abbrev brim16 : List ℕ
 brim16 = tests (counters 16) 91
 
+-- the same with 15 counters
 abbrev brim15 : List ℕ
 brim15 = tests (counters 15) 93
 
@@ -567,10 +569,11 @@ control =
 
 -- ── stops ───────────────────────────────────────────────────────────────────────────────────────
 
--- a text whose first mark is the byte b, over no values; over the value 0
+-- a text whose first mark is the byte b, over no values
 abbrev emptyAt : ℕ → Example
 emptyAt b = trial (bytes "(" ++ b ∷ bytes ";)") 1000 [] 99 (halts 21 0 [])
 
+-- a text that comes to the byte b over the one value 0
 abbrev shortAt : ℕ → Example
 shortAt b = trial (bytes "('/0'" ++ b ∷ bytes ";)") 1000 [] 0 (halts 21 1 (pos 0 ∷ []))
 
