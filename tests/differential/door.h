@@ -1,4 +1,4 @@
-/* The engine's calls, for any store.
+/* The engine's calls, for any store: a run in libdoor.a, define and withdraw in libhatch.a.
  *
  * cells: 26 tables of 250 cells, cell 1 of `a` first; used: 26 counts; vars: 10, variable 0 first; figures: 5, truth, steps, height, taken, written.
  * The result is the answer's number. No pointer is null.

@@ -3,7 +3,7 @@
  *
  *     stores [FIRST_SEED [ROUNDS]]      see work.h
  *
- * Built with calls.c, work.c, texts.c, the reference and libdoor.a. */
+ * Built with calls.c, work.c, texts.c, the reference, libdoor.a and libhatch.a. */
 #include <stdio.h>
 #include <string.h>
 
