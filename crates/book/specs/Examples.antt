@@ -8,7 +8,7 @@ use mathlib.Core.Bool.{true, false}
 use mathlib.Core.List.{List, [], _∷_, _++_, map}
 use lib.IntN.{ℤ, pos}
 use lib.ListN.{length, take, replicate}
-use Rattle.language.specs.Examples.{bytes, times, neg, zeros, fresh, Result, simply, ends, halts, took, keeps, wrote}
+use Rattle.language.specs.Trials.{bytes, times, neg, zeros, fresh, Result, simply, ends, halts, took, keeps, wrote}
 use Rattle.book.specs.Calls.{Call, defines, withdraws, running}
 use Rattle.book.specs.Replies.{Reply}
 use Rattle.book.specs.Book.{freshBook}

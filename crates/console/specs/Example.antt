@@ -2,7 +2,7 @@
 use mathlib.Core.Path.{_≡_}
 use Prim.Native.Nat.{ℕ}
 use mathlib.Core.List.{List, [], _∷_, _++_}
-use Rattle.language.specs.Examples.{bytes}
+use Rattle.language.specs.Trials.{bytes}
 use Rattle.book.specs.Store.{freshStore}
 use Rattle.console.specs.Desk.{session}
 

@@ -5,7 +5,8 @@ use Rattle.language.specs.Values.{isValue}
 use Rattle.language.specs.Effects.{start, perform, ask}
 use Rattle.language.specs.Meaning.{meaning}
 use Rattle.language.specs.Machine.{decode, arrive, run}
-use Rattle.language.specs.Examples.{textAt, Hold, starred, faults, limits, layouts, decodings, effects, control, stops}
+use Rattle.language.specs.Trials.{textAt, Hold}
+use Rattle.language.specs.Examples.{starred, faults, limits, layouts, decodings, effects, control, stops}
 
 -- document 01's starred examples
 pub starred-hold : Hold starred

@@ -15,5 +15,6 @@ pub mod Effects
 pub mod Meaning
 pub mod Machine
 pub mod Tables
+pub mod Trials
 pub mod Examples
 pub mod Statements

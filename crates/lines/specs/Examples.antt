@@ -7,7 +7,7 @@ use lib.IntN.{pos}
 use lib.ListN.{replicate}
 use Rattle.language.specs.declared.Refusal.the-variants.{BadLine}
 use Rattle.language.specs.Answers.{refusalNumber}
-use Rattle.language.specs.Examples.{bytes, times, neg}
+use Rattle.language.specs.Trials.{bytes, times, neg}
 use Rattle.lines.specs.Lines.{Request, define, withdraw, run, bad, request}
 
 -- the request of a line, or the number that it is refused with

@@ -4,7 +4,7 @@ use Prim.Native.Nat.{ℕ}
 use mathlib.Core.List.{List, [], _∷_}
 use lib.IntN.{ℤ, pos}
 use lib.ListN.{getD, replicate}
-use Rattle.language.specs.Examples.{bytes}
+use Rattle.language.specs.Trials.{bytes}
 use Rattle.language.specs.Values.{lawful}
 use Rattle.language.specs.Effects.{perform, ask, onCall}
 use Rattle.language.specs.Limits.{maxHeight}

@@ -1,4 +1,4 @@
--- `paper::write` meets its contract.
+-- `paper::output::write` meets its contract.
 use mathlib.Core.Path.{_≡_, refl, sym, ap, _∙_}
 use mathlib.Core.List.{List}
 use Prim.Native.Nat.{ℕ, _+_, _-_, _≤_}
@@ -23,8 +23,8 @@ use Rattle.numerals.proofs.Numerals.{written-room}
 use Rattle.operands.specs.Loop.{effectTurn}
 use Rattle.operands.specs.Held.{stateOf, spotOf, writing}
 use Rattle.paper.proofs.Effects.{emitted-fits, emitted-out, operate-turn}
-use Rattle.paper.proofs.write.Statement.{statement}
-use Rattle.paper.proofs.write.Tie as tie
+use Rattle.paper.proofs.output.write.Statement.{statement}
+use Rattle.paper.proofs.output.write.Tie as tie
 
 -- 12 columns
 length-column : (v : ℤ) → length (column v) ≡ writeWidth

@@ -1,8 +1,8 @@
--- `paper::put_column` meets its contract.
+-- `paper::output::put_column` meets its contract.
 use mir.Facts.{toZ-ofZ}
 use borrow.Author.Needs.{needs}
-use Rattle.paper.proofs.put_column.Statement.{statement}
-use Rattle.paper.proofs.put_column.Tie as tie
+use Rattle.paper.proofs.output.put_column.Statement.{statement}
+use Rattle.paper.proofs.output.put_column.Tie as tie
 
 returns : tie.Need-returns
 returns c =

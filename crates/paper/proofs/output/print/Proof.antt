@@ -1,4 +1,4 @@
--- `paper::print` meets its contract. The length and the form of the bytes are the decoding of the mark.
+-- `paper::output::print` meets its contract. The length and the form of the bytes are the decoding of the mark.
 use mathlib.Core.Path.{_≡_, refl, sym, ap, _∙_}
 use Prim.Native.Nat.{ℕ, suc, _+_, _≤_}
 use native.Mathlib.Omega.{arith}
@@ -24,8 +24,8 @@ use Rattle.operands.proofs.Operands.{bounded-le, length-prints}
 use Rattle.operands.proofs.Tables.{cell-next}
 use Rattle.operands.proofs.OperandsDecoding.{print-read, print-short, print-long, print-broken, print-good}
 use Rattle.paper.proofs.Effects.{emitted-fits, emitted-out, operate-turn}
-use Rattle.paper.proofs.print.Statement.{statement}
-use Rattle.paper.proofs.print.Tie as tie
+use Rattle.paper.proofs.output.print.Statement.{statement}
+use Rattle.paper.proofs.output.print.Tie as tie
 
 module _ (c : tie.Start) where
   abbrev tab : Table

@@ -1,4 +1,4 @@
--- `paper::copy_cells` meets its contract. The loop's invariant: the first i bytes are pasted.
+-- `paper::output::copy_cells` meets its contract. The loop's invariant: the first i bytes are pasted.
 use mathlib.Core.Path.{_≡_, refl, sym, _∙_}
 use Prim.Native.Nat.{_+_, _-_}
 use native.Mathlib.Omega.{arith}
@@ -11,8 +11,8 @@ use borrow.Author.Needs.{needs}
 use Rattle.operands.specs.Operands.{printsFrom}
 use Rattle.language.proofs.Copies.{Pasting, pasting-none, pasting-more, pasting-done}
 use Rattle.operands.proofs.Operands.{length-prints, getD-prints}
-use Rattle.paper.proofs.copy_cells.Statement.{statement}
-use Rattle.paper.proofs.copy_cells.Tie as tie
+use Rattle.paper.proofs.output.copy_cells.Statement.{statement}
+use Rattle.paper.proofs.output.copy_cells.Tie as tie
 
 abbrev Inv-loop : tie.InvT-loop
 Inv-loop output₀ to cells from n i₀ output i = Pasting output₀ to (printsFrom cells from n) n output i
