@@ -1,15 +1,15 @@
 /*
- * The proved linker against a linker in plain C, in one run: both give the same numbers and the same cells on many texts, and then the time of each on
+ * The proved linker against a linker in plain C, in one run: both give the same numbers, counts and cells on many texts, and then the time of each on
  * short, typical and longest texts. bench/places builds and runs it.
  */
 #define _POSIX_C_SOURCE 199309L
+#include "measure.h"
 #include "plain_linker.h"
 #include "rec.h"
 #include <stdio.h>
 #include <string.h>
-#include <time.h>
 
-enum { CELLS = 250, LONGEST = 300, ROUNDS = 7 };
+enum { LONGEST = 300, ROUNDS = 7 };
 
 static uint64_t state = 88172645463325252u;
 
@@ -22,17 +22,17 @@ static uint32_t below(uint32_t n) {
 
 static long compared, accepted;
 
-/* Both linkers on one text. Their answers and every cell must be equal. */
+/* Both linkers on one text. Their answers, counts and every cell must be equal. */
 static int same(const uint8_t *text, size_t length) {
-    int32_t a[CELLS + 2], b[CELLS + 2];
+    int32_t a[REC_CELLS + 2], b[REC_CELLS + 2];
     memset(a, 0x55, sizeof a);
     memset(b, 0x55, sizeof b);
-    size_t room = below(8) == 0 ? below(CELLS + 2) : CELLS;
-    int32_t x = rec_link(text, length, a, room);
-    int32_t y = plain_link(text, length, b, room);
+    size_t room = below(8) == 0 ? below(REC_CELLS + 2) : REC_CELLS, m, n;
+    int32_t x = rec_link(text, length, a, room, &m);
+    int32_t y = plain_link(text, length, b, room, &n);
     compared++;
     accepted += x == 0;
-    if (x == y && rec_check(text, length) == x && memcmp(a, b, sizeof a) == 0) return 1;
+    if (x == y && rec_check(text, length) == x && m == n && memcmp(a, b, sizeof a) == 0) return 1;
     printf("differ: %d and %d on %.*s\n", (int)x, (int)y, (int)length, (const char *)text);
     return 0;
 }
@@ -60,23 +60,18 @@ static size_t some_text(uint8_t *text) {
     return length;
 }
 
-static double seconds(void) {
-    struct timespec t;
-    clock_gettime(CLOCK_MONOTONIC, &t);
-    return (double)t.tv_sec + 1e-9 * (double)t.tv_nsec;
-}
-
-typedef int32_t linker(const uint8_t *, size_t, int32_t *, size_t);
+typedef int32_t linker(const uint8_t *, size_t, int32_t *, size_t, size_t *);
 
 /* Nanoseconds for a text, the best of several rounds. */
 static double measure(linker *link, const uint8_t *text, size_t length) {
-    static int32_t cells[CELLS];
+    static int32_t cells[REC_CELLS];
+    static size_t used;
     static volatile int32_t sink;
     double best = 1e9;
     long times = length < 16 ? 400000 : 100000;
     for (int r = 0; r < ROUNDS; r++) {
         double start = seconds();
-        for (long i = 0; i < times; i++) sink = link(text, length, cells, CELLS);
+        for (long i = 0; i < times; i++) sink = link(text, length, cells, REC_CELLS, &used);
         double each = (seconds() - start) / (double)times * 1e9;
         if (each < best) best = each;
     }
@@ -99,7 +94,7 @@ int main(void) {
         for (size_t j = 0; j < length; j++) text[j] = below(4) ? (uint8_t)"(N;):,.+F1$1'/ \"a"[below(17)] : (uint8_t)below(256);
         if (!same(text, length)) return 1;
     }
-    printf("%ld texts, %ld of them accepted: the same numbers and the same cells\n", compared, accepted);
+    printf("%ld texts, %ld of them accepted: the same numbers, counts and cells\n", compared, accepted);
 
     static char worst[4][257];
     memset(worst[0], 'N', 125);
@@ -122,14 +117,12 @@ int main(void) {
     memset(worst[3], ' ', 256);
     worst[3][0] = '(';
     worst[3][255] = ')';
-    const char *d = "(0L'/1';'/1'-d'/2'*;)";
     const char *loop = "('/0'($5$'/1'+:;);)";
-    const char *typical = "(\"stake by odds\" I S1 I S2 F1 F2 * '/100' / (N ''no bet' X ; P '/500' - N L ; L '/500') ''Pays ' O X ($3$ ''*' :) ; X)";
     row("()", "()", 2);
     row("(N;)", "(N;)", 4);
-    row("document 01's d", d, strlen(d));
+    row("document 01's d", D_TEXT, strlen(D_TEXT));
     row("document 01's counter loop", loop, strlen(loop));
-    row("a till's text", typical, strlen(typical));
+    row("a till's text", TILL_TEXT, strlen(TILL_TEXT));
     row("123 predicates", worst[0], 125);
     row("247 operators", worst[1], 249);
     row("nested, 256 bytes", worst[2], 256);

@@ -5,6 +5,6 @@
 #include <stddef.h>
 #include <stdint.h>
 
-int32_t plain_link(const uint8_t *text, size_t length, int32_t *cells, size_t room);
+int32_t plain_link(const uint8_t *text, size_t length, int32_t *cells, size_t room, size_t *used);
 
 #endif

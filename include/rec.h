@@ -1,47 +1,178 @@
-/* The linker of the REC engine, for C programs. Link with liblinker.a (rt staticlib linker). */
+/*
+ * The REC engine for C and C++. Link with librec.a (pkg-config rec). docs/C.md is the guide, with a complete program.
+ *
+ * Every function returns for any text, letter, store contents, inputs, allowance and buffer contents. A function that answers with a number answers 0 or
+ * a number of enum rec_number. A refused call (1 to 14) leaves the store, the list, the output and the cells as they were, and its figures are 0.
+ *
+ * What the caller sees to, and nothing checks:
+ *   pointers    Each points to as many elements as its type or the length after it says, aligned for their type. Where the length is 0 it may be null.
+ *               store, report and used are never null.
+ *   overlap     What a call may write (the store, the list, the output, the report, the cells, *used) overlaps nothing else that the call is passed.
+ *               What it only reads (text, inputs) may overlap.
+ *   threads     The library has no data of its own. Any thread may call it; calls at the same time use different stores and buffers.
+ *   stack       Below 16 KiB for rec_run and 64 KiB for each other function (docs/C.md has the measured table).
+ *
+ * The library allocates nothing, reads and writes no file, and keeps no pointer after a call.
+ */
 #ifndef REC_H
 #define REC_H
 
 #include <stddef.h>
 #include <stdint.h>
 
-/*
- * Document 01's numbers and words. 0 is no refusal. 1 to 14 refuse a call; rec_check gives 2 to 9 of them. 20 to 29 end a run.
- *
- *    1  no such letter   not `a` to `z`
- *    2  long text        over 256 bytes
- *    3  stray mark       a byte that may not stand there, no other number fitting
- *    4  deep             an 11th level
- *    5  bad counter      a byte breaks its form, or n is 0 at the closing `$`
- *    6  bad constant     a byte after `'/` breaks its form
- *    7  unfinished       the text ends before its grammar does
- *    8  table full       a mark needs cell 251 (last `)`: both its cells)
- *    9  many counters    a 17th
- *   10  not standing     withdraw or run of a cleared letter
- *   11  bad input        an input outside the values
- *   12  bad list         not 64 places
- *   13  bad store        a used count neither 0 nor 3 to 250, or a variable outside the values
- *   14  bad line         a desk line breaks its form
- *   20  spent            steps equal the allowance and another step is due
- *   21  list empty       too few values
- *   22  list full        a push on 64
- *   23  range            result outside the values
- *   24  zero divisor
- *   25  no input
- *   26  paper out        the bytes of a print, `O` or `X` do not all fit
- *   27  no text          call of a cleared letter
- *   28  deep calls       a 101st nested call
- *   29  damaged          the due cell, or a cell of the mark there, breaks the form that a table's cells have (document 01 lists the clauses); a table
- *                        that keeps the form is obeyed, whether or not a text links to it
- */
+#ifdef __cplusplus
+extern "C" {
+#endif
 
-/* 0 where the text links, else the number of its refusal. Every text of every length has an answer. */
+/* The version of this header and of the archive beside it. */
+#define REC_VERSION_MAJOR 1
+#define REC_VERSION_MINOR 0
+#define REC_VERSION "1.0"
+
+/* Document 01's limits. */
+#define REC_TEXT 256            /* bytes of a text */
+#define REC_LEVELS 10           /* levels of parentheses */
+#define REC_COUNTERS 16         /* counters of a text */
+#define REC_LETTERS 26          /* letters of a store, a to z */
+#define REC_CELLS 250           /* cells of a letter */
+#define REC_VARIABLES 10        /* variables of a store */
+#define REC_LIST 64             /* places of a run's list */
+#define REC_CALLS 100           /* calls within calls */
+#define REC_VALUE_MAX 999999999 /* values lie from -REC_VALUE_MAX to REC_VALUE_MAX */
+
+/* Document 01's numbers. 1 to 14 refuse a call, 20 to 29 end a run. */
+enum rec_number {
+    REC_FINISHED = 0,       /* a run that finished; any other call accepted */
+    REC_NO_SUCH_LETTER = 1, /* not `a` to `z` */
+    REC_LONG_TEXT = 2,      /* over 256 bytes */
+    REC_STRAY_MARK = 3,     /* a byte that may not stand there, no other number fitting */
+    REC_DEEP = 4,           /* an 11th level */
+    REC_BAD_COUNTER = 5,    /* a byte breaks its form, or n is 0 at the closing `$` */
+    REC_BAD_CONSTANT = 6,   /* a byte after `'/` breaks its form */
+    REC_UNFINISHED = 7,     /* the text ends before its grammar does */
+    REC_TABLE_FULL = 8,     /* a mark needs cell 251 (last `)`: both its cells) */
+    REC_MANY_COUNTERS = 9,  /* a 17th */
+    REC_NOT_STANDING = 10,  /* withdraw or run of a cleared letter */
+    REC_BAD_INPUT = 11,     /* an input outside the values */
+    REC_BAD_LIST = 12,      /* not 64 places */
+    REC_BAD_STORE = 13,     /* a used count neither 0 nor 3 to 250, or a variable outside the values */
+    REC_BAD_LINE = 14,      /* a desk line breaks its form */
+    REC_SPENT = 20,         /* steps equal the allowance and another step is due */
+    REC_LIST_EMPTY = 21,    /* too few values */
+    REC_LIST_FULL = 22,     /* a push on 64 */
+    REC_RANGE = 23,         /* result outside the values */
+    REC_ZERO_DIVISOR = 24,  /* a division by 0 */
+    REC_NO_INPUT = 25,      /* `I`, and no input is left */
+    REC_PAPER_OUT = 26,     /* the bytes of a print, `O` or `X` do not all fit */
+    REC_NO_TEXT = 27,       /* call of a cleared letter */
+    REC_DEEP_CALLS = 28,    /* a 101st nested call */
+    REC_DAMAGED = 29        /* the due cell, or a cell of the mark there, breaks the form that a table's cells have (document 01 lists the clauses); a
+                               table that keeps the form is obeyed, whether or not a text links to it */
+};
+
+/* A number's word, "not standing" for 10, and "?" for what is no number. */
+static inline const char *rec_word(int32_t number) {
+    switch (number) {
+    case REC_FINISHED: return "finished";
+    case REC_NO_SUCH_LETTER: return "no such letter";
+    case REC_LONG_TEXT: return "long text";
+    case REC_STRAY_MARK: return "stray mark";
+    case REC_DEEP: return "deep";
+    case REC_BAD_COUNTER: return "bad counter";
+    case REC_BAD_CONSTANT: return "bad constant";
+    case REC_UNFINISHED: return "unfinished";
+    case REC_TABLE_FULL: return "table full";
+    case REC_MANY_COUNTERS: return "many counters";
+    case REC_NOT_STANDING: return "not standing";
+    case REC_BAD_INPUT: return "bad input";
+    case REC_BAD_LIST: return "bad list";
+    case REC_BAD_STORE: return "bad store";
+    case REC_BAD_LINE: return "bad line";
+    case REC_SPENT: return "spent";
+    case REC_LIST_EMPTY: return "list empty";
+    case REC_LIST_FULL: return "list full";
+    case REC_RANGE: return "range";
+    case REC_ZERO_DIVISOR: return "zero divisor";
+    case REC_NO_INPUT: return "no input";
+    case REC_PAPER_OUT: return "paper out";
+    case REC_NO_TEXT: return "no text";
+    case REC_DEEP_CALLS: return "deep calls";
+    case REC_DAMAGED: return "damaged";
+    default: return "?";
+    }
+}
+
+/*
+ * A store: the texts that stand under the letters, as code tables, and the variables. The cells of letter a are cells[0] to cells[249], with document
+ * 01's cell 1 first; used[0] says how many of them are used, and is 0 for a letter without a text. Variable k is vars[k]. A store may be copied, kept in
+ * a file of the same machine and compared; it holds no pointer. Its contents may be anything: a store that breaks its form is refused with 13, or a run
+ * of it ends with 29.
+ */
+typedef struct {
+    int32_t cells[REC_LETTERS * REC_CELLS];
+    size_t used[REC_LETTERS];
+    int32_t vars[REC_VARIABLES];
+} rec_store;
+
+/* The figures of a run: truth (0 or 1), steps taken, values on the list, inputs taken, bytes of output written. */
+typedef struct {
+    size_t truth, steps, height, taken, written;
+} rec_report;
+
+/* ---- the archive's own functions, which take a store's arrays one by one; use the functions after them ---- */
+
+void rec_lent_fresh(int32_t *cells, size_t *used, int32_t *vars);
+uint32_t rec_lent_define(int32_t *cells, size_t *used, const int32_t *vars, uint8_t letter, const uint8_t *text, size_t length);
+uint32_t rec_lent_withdraw(int32_t *cells, size_t *used, const int32_t *vars, uint8_t letter);
+uint32_t rec_lent_run(const int32_t *cells, const size_t *used, int32_t *vars, uint8_t letter, uint32_t allowance, const int32_t *inputs, size_t count,
+                      int32_t *list, size_t places, uint8_t *output, size_t room, size_t *figures);
+
+/* ---- a store ---- */
+
+/* Every letter cleared, every variable 0, whatever the store held. */
+static inline void rec_fresh(rec_store *store) { rec_lent_fresh(store->cells, store->used, store->vars); }
+
+/* The text becomes that of the letter: 0, or 13, 1, 2 to 9 in that order. */
+static inline int32_t rec_define(rec_store *store, uint8_t letter, const uint8_t *text, size_t length) {
+    return (int32_t)rec_lent_define(store->cells, store->used, store->vars, letter, text, length);
+}
+
+/* The letter's text goes: 0, or 13, 1, 10 in that order. */
+static inline int32_t rec_withdraw(rec_store *store, uint8_t letter) {
+    return (int32_t)rec_lent_withdraw(store->cells, store->used, store->vars, letter);
+}
+
+/*
+ * The letter's text is obeyed: 0 where it finishes, 13, 1, 10, 11, 12 (in that order) where it is refused, 20 to 29 where it is stopped. `places` is
+ * REC_LIST. Unless it is refused, list[0] is the bottom and the places above the height are 0, the first `written` bytes of the output are written and
+ * the rest is as it was. Only a finished run changes the variables; no run changes a table. A run takes at most `allowance` steps.
+ */
+static inline int32_t rec_run(rec_store *store, uint8_t letter, uint32_t allowance, const int32_t *inputs, size_t count, int32_t *list, size_t places,
+                              uint8_t *output, size_t room, rec_report *report) {
+    size_t figures[5];
+    uint32_t number =
+        rec_lent_run(store->cells, store->used, store->vars, letter, allowance, inputs, count, list, places, output, room, figures);
+    report->truth = figures[0];
+    report->steps = figures[1];
+    report->height = figures[2];
+    report->taken = figures[3];
+    report->written = figures[4];
+    return (int32_t)number;
+}
+
+/* ---- a text alone ---- */
+
+/* 0 where the text links, else the number of its first fault, 2 to 9. */
 int32_t rec_check(const uint8_t *text, size_t length);
 
 /*
- * The same answer, and the text's code table, cell 1 first: cells[0] to cells[249], or as many as `room` has. A refused text gives cells of 0. Cells
- * past the 250th stay as they were.
+ * The same number, and the text's code table. Where the text links, *used is its used-cell count, and its cells are cells[0] to cells[249], or as many as
+ * `room` has; cells past the 250th stay as they were. Where it is refused, *used is 0 and every cell stays as it was.
  */
-int32_t rec_link(const uint8_t *text, size_t length, int32_t *cells, size_t room);
+int32_t rec_link(const uint8_t *text, size_t length, int32_t *cells, size_t room, size_t *used);
+
+#ifdef __cplusplus
+}
+#endif
 
 #endif

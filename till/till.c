@@ -1,63 +1,282 @@
-/*
- * A till: hands texts to the linker and prints, for each, its number and the number's word.
- *
- *     till [FILE]      reads FILE, or standard input
- *
- * A record is a line with the decimal length of a text in bytes, then the text itself, of exactly that many bytes, then a newline. So a text can hold
- * newlines and any other byte. Records follow one another up to the end of the file. Exit status: 0, or 1 where the file cannot be read or breaks this form.
- */
+/* A till: checks texts, and shows where the first fault of a refused text is. `usage` says how it is called, and its exit status. */
 #include "rec.h"
+#include <errno.h>
 #include <stdio.h>
 #include <stdlib.h>
+#include <string.h>
 
-enum { LONGEST = 1 << 20 };
+static const char usage[] =
+    "till checks REC texts. For each it prints its number, the answer and its word; of a refused\n"
+    "text also the byte at fault, and the text with a mark under that byte.\n"
+    "\n"
+    "    till [FILE]      one text a line; a desk line is taken too: of `D` letter text the text,\n"
+    "                     while `X` and `R` lines, which have none, are passed over\n"
+    "    till -t FILE..   each file is one text, which may hold newlines\n"
+    "    till -r [FILE]   records, so that a text may hold any byte: a line with the length of the\n"
+    "                     text in bytes, the text, a newline\n"
+    "    till -h          prints this\n"
+    "\n"
+    "Without FILE it reads standard input. Exit status: 0 every text links; 1 a text is refused;\n"
+    "2 a file cannot be read, records break their form, the output cannot be written, wrong use.\n";
 
-static const char *word(int32_t number) {
-    switch (number) {
-    case 0: return "linked";
-    case 2: return "long text";
-    case 3: return "stray mark";
-    case 4: return "deep";
-    case 5: return "bad counter";
-    case 6: return "bad constant";
-    case 7: return "unfinished";
-    case 8: return "table full";
-    case 9: return "many counters";
-    default: return "?";
-    }
+enum { LINKED, REFUSED, FAILED };
+
+/* The exit status: the worst of what has happened. */
+static int status = LINKED;
+
+static void worsen(int to) {
+    if (status < to) status = to;
 }
 
-/* The length that a record begins with, -1 at the end of the file, or -2 where there is none. */
-static long record_length(FILE *in) {
-    int c = getc(in);
-    long n = 0;
-    if (c == EOF) return -1;
-    if (c == '\n') return -2;
-    for (; c != '\n'; c = getc(in)) {
-        if (c < '0' || c > '9') return -2;
-        n = n * 10 + (c - '0');
-        if (n > LONGEST) return -2;
-    }
+/* Says what is wrong with a file, after all that has been printed. */
+static void complain(const char *name, const char *what) {
+    fflush(stdout);
+    fprintf(stderr, "till: %s: %s\n", name, what);
+    worsen(FAILED);
+}
+
+/* ---- a text's answer ---- */
+
+/*
+ * How many bytes of a refused text refuse it: the length of its shortest beginning with the same number. The byte at fault is the last of them. Every
+ * beginning before it is accepted or unfinished, and from it on every one has the number: the theorem FirstFault (crates/language/specs/Statements,
+ * docs/DECISIONS.md 34). For 2 it is byte 257 (LongExactly), so there are at most 257 checks. 7 is of no byte.
+ */
+static size_t refused_length(const uint8_t *text, size_t length, int32_t number) {
+    size_t n = 1;
+    while (n < length && rec_check(text, n) != number) n++;
     return n;
 }
 
-int main(int argc, char **argv) {
-    static uint8_t text[LONGEST];
-    FILE *in = argc > 1 ? fopen(argv[1], "rb") : stdin;
-    int line = 0;
-    if (in == NULL) {
-        perror(argv[1]);
-        return 1;
+/* The length of a text without the blanks and newlines at its end. */
+static size_t trimmed_length(const uint8_t *text, size_t length) {
+    while (length > 0 && (text[length - 1] == ' ' || text[length - 1] == '\n')) length--;
+    return length;
+}
+
+static size_t newlines(const uint8_t *text, size_t length) {
+    size_t count = 0;
+    for (size_t i = 0; i < length; i++) count += text[i] == '\n';
+    return count;
+}
+
+static int printable(uint8_t byte) { return byte >= 32 && byte <= 126; }
+
+/* Names a byte that cannot be seen. */
+static void name_byte(uint8_t byte) {
+    if (byte == '\t') printf(" (a Tab)");
+    else if (byte == '\n') printf(" (a newline)");
+    else if (byte == '\r') printf(" (a carriage return)");
+    else if (!printable(byte)) printf(" (byte %d)", byte);
+}
+
+/* ---- the text with a mark under a byte ---- */
+
+enum { MARGIN = 5, SHOWN = 64 }; /* blanks before a text; bytes of it that are shown */
+
+/* Bytes `first` to `last` - 1 are shown of the line that is bytes `from` to `to` - 1. */
+struct view {
+    size_t from, to, first, last;
+};
+
+/* The line of a text that byte `at` stands in, or ends, and at most SHOWN bytes of it around that byte. */
+static struct view view_of(const uint8_t *text, size_t length, size_t at) {
+    struct view v = {at, at, 0, 0};
+    while (v.from > 0 && text[v.from - 1] != '\n') v.from--;
+    while (v.to < length && text[v.to] != '\n') v.to++;
+    v.first = v.from;
+    v.last = v.to;
+    if (v.to - v.from > SHOWN) {
+        if (at - v.from > SHOWN / 2) v.first = at - SHOWN / 2;
+        if (v.to - v.first < SHOWN) v.first = v.to - SHOWN;
+        v.last = v.first + SHOWN;
     }
-    for (;;) {
-        long n = record_length(in);
-        if (n == -1) return 0;
-        line++;
-        if (n < 0 || fread(text, 1, (size_t)n, in) != (size_t)n || getc(in) != '\n') {
-            fprintf(stderr, "till: record %d breaks the form\n", line);
-            return 1;
+    return v;
+}
+
+static void show(const uint8_t *text, size_t length, size_t at) {
+    struct view v = view_of(text, length, at);
+    const char *cut = v.first > v.from ? "..." : "";
+    printf("%*s%s", MARGIN, "", cut);
+    for (size_t i = v.first; i < v.last; i++) putchar(printable(text[i]) ? text[i] : '?');
+    puts(v.last < v.to ? "..." : "");
+    printf("%*s^\n", (int)(MARGIN + strlen(cut) + (at - v.first)), "");
+}
+
+/* Where a refused text is at fault: at a byte, or at its end. */
+static void show_fault(const uint8_t *text, size_t length, int32_t number) {
+    int of_byte = number != REC_UNFINISHED;
+    size_t end = trimmed_length(text, length);
+    size_t at = of_byte ? refused_length(text, length, number) - 1 : end;
+    if (of_byte) printf(" at byte %zu", at + 1);
+    else printf(" at the end");
+    if (newlines(text, end) > 0) printf(", line %zu", newlines(text, at) + 1);
+    if (of_byte) name_byte(text[at]);
+    putchar('\n');
+    show(text, length, at);
+}
+
+static void check(size_t place, const uint8_t *text, size_t length) {
+    int32_t number = rec_check(text, length);
+    int links = number == REC_FINISHED;
+    printf("%4zu %3d %s", place, (int)number, links ? "linked" : rec_word(number));
+    if (links) {
+        putchar('\n');
+        return;
+    }
+    worsen(REFUSED);
+    show_fault(text, length, number);
+}
+
+/* ---- reading ---- */
+
+struct source {
+    FILE *in;
+    const char *name;
+};
+
+/* Bytes of a file; `at` is null while none has been read. */
+struct bytes {
+    uint8_t *at;
+    size_t length, room;
+};
+
+/* The file of that name, or standard input where there is none. */
+static int open_source(struct source *s, const char *name) {
+    s->in = name == NULL ? stdin : fopen(name, "rb");
+    s->name = name == NULL ? "standard input" : name;
+    if (s->in == NULL) complain(s->name, strerror(errno));
+    return s->in != NULL;
+}
+
+/* The next byte, or EOF: the file has ended, or it cannot be read and that is said. */
+static int next_byte(const struct source *s) {
+    int c = getc(s->in);
+    if (c == EOF && ferror(s->in)) complain(s->name, strerror(errno));
+    return c;
+}
+
+static void push(struct bytes *b, int c) {
+    if (b->length == b->room) {
+        size_t room = b->room * 2 + 1024;
+        uint8_t *at = (uint8_t *)realloc(b->at, room);
+        if (at == NULL) {
+            complain("a text", "out of memory");
+            exit(status);
         }
-        int32_t number = rec_check(text, (size_t)n);
-        printf("%4d %3d %s\n", line, (int)number, word(number));
+        b->at = at;
+        b->room = room;
     }
+    b->at[b->length++] = (uint8_t)c;
+}
+
+/* A line without its newline, which the last may lack; false where there is none, or it cannot be read. */
+static int read_line(const struct source *s, struct bytes *line) {
+    int c;
+    line->length = 0;
+    while ((c = next_byte(s)) != EOF && c != '\n') push(line, c);
+    return c == '\n' || (line->length > 0 && !ferror(s->in));
+}
+
+/* As many bytes as there are, up to `most`. */
+static void read_bytes(const struct source *s, struct bytes *b, size_t most) {
+    int c;
+    b->length = 0;
+    while (b->length < most && (c = next_byte(s)) != EOF) push(b, c);
+}
+
+/* ---- the three forms ---- */
+
+enum { DEFINE = 4 }; /* `D`, blank, letter, blank */
+
+static int is_define(const struct bytes *line) {
+    return line->length >= DEFINE && line->at[0] == 'D' && line->at[1] == ' ' && line->at[3] == ' ';
+}
+
+/* No text begins so. */
+static int has_no_text(const struct bytes *line) {
+    return line->length >= 2 && (line->at[0] == 'X' || line->at[0] == 'R') && line->at[1] == ' ';
+}
+
+static void check_lines(const struct source *s) {
+    struct bytes line = {NULL, 0, 0};
+    for (size_t place = 1; read_line(s, &line); place++) {
+        if (has_no_text(&line)) continue;
+        if (is_define(&line)) check(place, line.at + DEFINE, line.length - DEFINE);
+        else check(place, line.at, line.length);
+    }
+    free(line.at);
+}
+
+/* The number that a line is; false where it is none, or too large. */
+static int number_of(const struct bytes *line, size_t *number) {
+    *number = 0;
+    for (size_t i = 0; i < line->length; i++) {
+        if (line->at[i] < '0' || line->at[i] > '9' || *number > (SIZE_MAX - 9) / 10) return 0;
+        *number = *number * 10 + (size_t)(line->at[i] - '0');
+    }
+    return line->length > 0;
+}
+
+/* What follows a record's length, which `text` holds: as many bytes, and a newline. */
+static int read_record(const struct source *s, struct bytes *text) {
+    size_t length;
+    if (!number_of(text, &length)) return 0;
+    read_bytes(s, text, length);
+    return text->length == length && next_byte(s) == '\n';
+}
+
+static void complain_record(const struct source *s, size_t place) {
+    char what[64];
+    if (ferror(s->in)) return; /* that has been said */
+    snprintf(what, sizeof what, "record %zu breaks its form", place);
+    complain(s->name, what);
+}
+
+static void check_records(const struct source *s) {
+    struct bytes text = {NULL, 0, 0};
+    for (size_t place = 1; read_line(s, &text); place++) {
+        if (!read_record(s, &text)) {
+            complain_record(s, place);
+            break;
+        }
+        check(place, text.at, text.length);
+    }
+    free(text.at);
+}
+
+static void check_from(const char *name, void (*check_all)(const struct source *)) {
+    struct source s;
+    if (!open_source(&s, name)) return;
+    check_all(&s);
+    fclose(s.in);
+}
+
+static void check_files(char **names, int count) {
+    struct bytes text = {NULL, 0, 0};
+    struct source s;
+    for (int i = 0; i < count; i++) {
+        if (!open_source(&s, names[i])) continue;
+        read_bytes(&s, &text, SIZE_MAX);
+        if (!ferror(s.in)) check((size_t)i + 1, text.at, text.length);
+        fclose(s.in);
+    }
+    free(text.at);
+}
+
+int main(int argc, char **argv) {
+    int options = argc > 1 && argv[1][0] == '-';
+    const char *option = options ? argv[1] : "";
+    char **names = argv + 1 + options;
+    int count = argc - 1 - options;
+    if (strcmp(option, "-h") == 0) fputs(usage, stdout);
+    else if (strcmp(option, "-t") == 0 && count > 0) check_files(names, count);
+    else if (strcmp(option, "-r") == 0 && count <= 1) check_from(names[0], check_records);
+    else if (!options && count <= 1) check_from(names[0], check_lines);
+    else {
+        fputs(usage, stderr);
+        worsen(FAILED);
+    }
+    if (fflush(stdout) != 0 || ferror(stdout) || fclose(stdout) != 0) complain("standard output", "cannot be written");
+    return status;
 }

@@ -3,15 +3,50 @@
 #include <stdio.h>
 #include <string.h>
 
-#include "door.h"
 #include "work.h"
 
-/* ---- calls ------------------------------------------------------------- */
+/* ---- the reference ------------------------------------------------------ */
+
+static void keep_answer(struct side *side, struct rec_answer a)
+{
+    side->number = a.number;
+    side->clause = a.clause;
+    side->figures[0] = a.truth;
+    side->figures[1] = a.steps;
+    side->figures[2] = a.height;
+    side->figures[3] = a.taken;
+    side->figures[4] = a.written;
+}
+
+static struct rec_answer run_store(struct rec_store *store, uint8_t letter, uint32_t allowance,
+                                   const struct rec_loan *loan)
+{
+    return rec_store_run(store->cells, store->used, store->variables, letter, allowance, loan);
+}
+
+/* A book and a store are called alike. */
+#define REFERENCE(name, type, define, withdraw, run)                                         \
+    void name(type *it, const struct call *call, struct side *side)                          \
+    {                                                                                        \
+        struct rec_loan loan = {call->input, call->input_length, side->list,                 \
+                                call->list_length, side->output, call->output_length};       \
+        if (call->kind == DEFINE)                                                            \
+            side->number = define(it, call->letter, call->text.bytes, call->text.length);    \
+        else if (call->kind == WITHDRAW)                                                     \
+            side->number = withdraw(it, call->letter);                                       \
+        else                                                                                 \
+            keep_answer(side, run(it, call->letter, call->allowance, &loan));                \
+    }
+
+REFERENCE(call_store, struct rec_store, rec_store_define, rec_store_withdraw, run_store)
+REFERENCE(call_book, struct rec_book, rec_book_define, rec_book_withdraw, rec_book_run)
+
+/* ---- the engine --------------------------------------------------------- */
 
 void soil(struct random *r, struct side *side)
 {
     memset(side, 0, sizeof *side);
-    for (size_t i = 0; i < FIGURES + BEHIND; i++)
+    for (size_t i = 0; i < FIGURES; i++)
         side->figures[i] = random_bits(r);
     for (size_t i = 0; i < LIST_ROOM; i++)
         side->list[i] = (int32_t)random_bits(r);
@@ -19,88 +54,51 @@ void soil(struct random *r, struct side *side)
         side->output[i] = (uint8_t)random_bits(r);
 }
 
-static struct rec_loan loan_of(const struct call *call, struct side *side)
+/* Store, list and output as they were, and a run's figures 0. */
+static bool left_alone(const struct rec_store *store, const struct rec_store *store_before,
+                       const struct call *call, const struct side *side, struct side *expected)
 {
-    struct rec_loan loan = {call->input, call->input_length, side->list, call->list_length,
-                            side->output, call->output_length};
-    return loan;
+    bool good;
+    expected->number = side->number;
+    if (call->kind == RUN)
+        memset(expected->figures, 0, sizeof expected->figures);
+    good = same_sides(expected, side);
+    good &= same_variables(store_before->variables, store->variables);
+    good &= same_tables(store_before, store);
+    if (!good)
+        puts("  left by a refused call");
+    return good;
 }
 
-static void keep_answer(struct side *side, const struct rec_answer *a)
+bool call_engine(struct rec_store *store, const struct call *call, struct side *side)
 {
-    side->number = a->number;
-    side->clause = a->clause;
-    side->figures[0] = a->truth;
-    side->figures[1] = a->steps;
-    side->figures[2] = a->height;
-    side->figures[3] = a->taken;
-    side->figures[4] = a->written;
+    static struct rec_store store_before;
+    static struct side side_before;
+    bool good;
+    store_before = *store;
+    side_before = *side;
+    good = engine_call(store->cells, store->used, store->variables, call, side);
+    if (REC_NO_SUCH_LETTER <= side->number && side->number <= REC_BAD_LINE)
+        good &= left_alone(store, &store_before, call, side, &side_before);
+    return good;
 }
 
-void call_store(struct rec_store *store, const struct call *call, struct side *side)
+bool fresh_engine(struct random *r, struct rec_store *store)
 {
-    struct rec_loan loan = loan_of(call, side);
-    struct rec_answer a;
-    switch (call->kind) {
-    case DEFINE:
-        side->number = rec_store_define(store, call->letter, call->text.bytes, call->text.length);
-        break;
-    case WITHDRAW:
-        side->number = rec_store_withdraw(store, call->letter);
-        break;
-    default:
-        a = rec_store_run(store->cells, store->used, store->variables, call->letter,
-                          call->allowance, &loan);
-        keep_answer(side, &a);
-        break;
-    }
-}
-
-void call_book(struct rec_book *book, const struct call *call, struct side *side)
-{
-    struct rec_loan loan = loan_of(call, side);
-    struct rec_answer a;
-    switch (call->kind) {
-    case DEFINE:
-        side->number = rec_book_define(book, call->letter, call->text.bytes, call->text.length);
-        break;
-    case WITHDRAW:
-        side->number = rec_book_withdraw(book, call->letter);
-        break;
-    default:
-        a = rec_book_run(book, call->letter, call->allowance, &loan);
-        keep_answer(side, &a);
-        break;
-    }
-}
-
-void call_door(struct rec_store *store, const struct call *call, struct side *side)
-{
-    /* the reference keeps variable 0 last, the engine first */
-    int32_t vars[REC_VARIABLES + BEHIND];
+    static const struct rec_store zeros;
+    bool good;
+    for (size_t i = 0; i < REC_LETTERS * REC_CELLS; i++)
+        store->cells[i] = (int32_t)random_bits(r);
+    for (size_t i = 0; i < REC_LETTERS; i++)
+        store->used[i] = (size_t)random_bits(r) << 32 | random_bits(r);
     for (size_t i = 0; i < REC_VARIABLES; i++)
-        vars[(i + 1) % REC_VARIABLES] = store->variables[i];
-    for (size_t i = 0; i < BEHIND; i++)
-        vars[REC_VARIABLES + i] = 4711;
-    switch (call->kind) {
-    case DEFINE:
-        side->number = rec_define(store->cells, store->used, vars, call->letter,
-                                  call->text.bytes, call->text.length);
-        break;
-    case WITHDRAW:
-        side->number = rec_withdraw(store->cells, store->used, vars, call->letter);
-        break;
-    default:
-        side->number = rec_run(store->cells, store->used, vars, call->letter, call->allowance,
-                               call->input, call->input_length, side->list, call->list_length,
-                               side->output, call->output_length, side->figures);
-        break;
-    }
-    for (size_t i = 0; i < REC_VARIABLES; i++)
-        store->variables[i] = vars[(i + 1) % REC_VARIABLES];
-    for (size_t i = 0; i < BEHIND; i++)
-        if (vars[REC_VARIABLES + i] != 4711)
-            store->variables[0] = INT32_MIN; /* differs from every expected one */
+        store->variables[i] = (int32_t)random_bits(r);
+    good = engine_fresh(store->cells, store->used, store->variables);
+    good &= same_variables(zeros.variables, store->variables);
+    good &= same_tables(&zeros, store);
+    if (!good)
+        puts("  in a fresh store");
+    return good;
 }
 
 /* ---- comparing --------------------------------------------------------- */
@@ -115,7 +113,7 @@ bool same(const char *what, long long index, long long expected, long long got)
 bool same_sides(const struct side *expected, const struct side *got)
 {
     bool good = same("number", 0, expected->number, got->number);
-    for (size_t i = 0; i < FIGURES + BEHIND; i++)
+    for (size_t i = 0; i < FIGURES; i++)
         good &= same("figure", (long long)i, (long long)expected->figures[i],
                      (long long)got->figures[i]);
     for (size_t i = 0; i < LIST_ROOM && good; i++)

@@ -1,51 +1,22 @@
-/* One call through the door beside the same call of the reference: what it is
- * given, what it gives, and how often each number came. */
+/* One call of the engine beside the same call of the reference, and how often each
+ * number came. */
 #ifndef CALLS_H
 #define CALLS_H
 
-#include <stdbool.h>
-#include <stddef.h>
-#include <stdint.h>
-
 #include "../reference/rec.h"
-#include "texts.h"
-
-enum {
-    LIST_ROOM = 160,
-    OUTPUT_ROOM = 5300,
-    INPUT_ROOM = 100,
-    FIGURES = 5, /* truth, steps, height, taken, written */
-    BEHIND = 3   /* figures and variables behind the lent ones, which must stay */
-};
-
-enum call_kind { DEFINE, WITHDRAW, RUN, CALL_KINDS };
-
-struct call {
-    enum call_kind kind;
-    uint8_t letter;
-    struct text text; /* of a define; what follows is of a run */
-    uint32_t allowance;
-    int32_t input[INPUT_ROOM];
-    size_t input_length;
-    size_t list_length;
-    size_t output_length;
-};
-
-/* What a call gives beside the store. */
-struct side {
-    uint32_t number;
-    uint32_t clause; /* of the reference's number 29 */
-    size_t figures[FIGURES + BEHIND];
-    int32_t list[LIST_ROOM];
-    uint8_t output[OUTPUT_ROOM];
-};
+#include "engine.h"
 
 /* Anything at all in list, output and figures. */
 void soil(struct random *r, struct side *side);
 
+/* The reference's calls. */
 void call_store(struct rec_store *store, const struct call *call, struct side *side);
 void call_book(struct rec_book *book, const struct call *call, struct side *side);
-void call_door(struct rec_store *store, const struct call *call, struct side *side);
+
+/* The engine's. False: a refused call left a trace in store, list, output or
+ * figures, or a fresh store is not all zeros whatever it held before. */
+bool call_engine(struct rec_store *store, const struct call *call, struct side *side);
+bool fresh_engine(struct random *r, struct rec_store *store);
 
 /* These say what differs. All of a side is compared, also what lies behind the
  * lent places. */

@@ -1,10 +1,10 @@
-/* Compares lists of calls: the reference's book against the engine behind door.h,
- * both from a fresh start. Each number and figure, every list place and output
- * byte, and the variables after each call.
+/* Compares lists of calls: the reference's book against the engine's store, both
+ * from a fresh start. Each number and figure, every list place and output byte, and
+ * the variables after each call.
  *
  *     histories [FIRST_SEED [ROUNDS]]      see work.h
  *
- * Built with calls.c, work.c, texts.c, the reference, libdoor.a and libhatch.a. */
+ * Built with calls.c, engine.c, work.c, texts.c, the reference and librec.a. */
 #include <stdio.h>
 #include <string.h>
 
@@ -44,10 +44,10 @@ struct both {
     struct side got;
 };
 
-static void fresh(struct both *b)
+static bool fresh(struct random *r, struct both *b)
 {
     rec_book_fresh(&b->book);
-    rec_store_fresh(&b->store);
+    return fresh_engine(r, &b->store);
 }
 
 static bool compare(struct random *r, struct both *b, const struct call *call)
@@ -56,8 +56,8 @@ static bool compare(struct random *r, struct both *b, const struct call *call)
     soil(r, &b->expected);
     b->got = b->expected;
     call_book(&b->book, call, &b->expected);
-    call_door(&b->store, call, &b->got);
-    good = same_sides(&b->expected, &b->got);
+    good = call_engine(&b->store, call, &b->got);
+    good &= same_sides(&b->expected, &b->got);
     good &= same_variables(b->book.variables, b->store.variables);
     if (b->got.number == REC_BAD_STORE || b->got.number == REC_DAMAGED) {
         printf("  number %u on a store from such calls\n", (unsigned)b->got.number);
@@ -143,9 +143,9 @@ static bool directed(void)
     static struct both b;
     static struct call call;
     struct random r;
-    bool good = true;
+    bool good;
     random_seed(&r, 1);
-    fresh(&b);
+    good = fresh(&r, &b);
     for (size_t i = 0; i < sizeof rows / sizeof rows[0] && good; i++) {
         const struct row *row = &rows[i];
         call.kind = row->kind;
@@ -256,7 +256,8 @@ static bool round_of(uint64_t seed)
     static struct call call;
     struct random r;
     random_seed(&r, seed);
-    fresh(&b);
+    if (!fresh(&r, &b))
+        return false;
     for (int i = between(&r, 5, 60); i > 0; i--) {
         choose_call(&r, &b, &call);
         if (!compare(&r, &b, &call))

@@ -1,9 +1,9 @@
-/* Compares the linker behind include/rec.h with the reference: the number by
- * rec_check and by rec_link, and every cell of the lent room.
+/* Compares rec_check and rec_link of include/rec.h with the reference: the number by
+ * both, the used-cell count and every cell of the lent room.
  *
  *     links [FIRST_SEED [ROUNDS]]      see work.h
  *
- * Built with work.c, texts.c, the reference and liblinker.a. */
+ * Built with engine.c, work.c, texts.c, the reference and librec.a. */
 #define _DEFAULT_SOURCE /* mmap */
 #include <stdio.h>
 #include <stdlib.h>
@@ -11,9 +11,8 @@
 #include <sys/mman.h>
 #include <unistd.h>
 
-#include "../../include/rec.h"
 #include "../reference/rec.h"
-#include "texts.h"
+#include "engine.h"
 #include "work.h"
 
 enum {
@@ -133,15 +132,22 @@ static void show(const uint8_t *text, size_t length, size_t room)
     putchar('\n');
 }
 
-/* The lent room: the table's cells, 0 for a refused text; behind the 250th and
- * outside the room, what stood there. */
-static bool same_cells(const int32_t *room_start, size_t room, const int32_t *table,
-                       int32_t soil)
+/* What stands at a place of the lent room before the call. */
+static uint32_t soil = 77000000;
+
+static int32_t soiled(size_t place)
+{
+    return (int32_t)(soil + (uint32_t)place);
+}
+
+/* The lent room: the table's cells; behind the 250th, outside the room and for a
+ * refused text (no table), what stood there. */
+static bool same_cells(const int32_t *cells, size_t room, const int32_t *table)
 {
     for (size_t i = 0; i < GUARD + room; i++) {
-        bool written = i >= GUARD && i - GUARD < REC_CELLS;
-        int32_t expected = written ? table[i - GUARD] : soil;
-        int32_t got = room_start[(ptrdiff_t)i - GUARD];
+        bool written = table != NULL && i >= GUARD && i - GUARD < REC_CELLS;
+        int32_t expected = written ? table[i - GUARD] : soiled(i);
+        int32_t got = cells[(ptrdiff_t)i - GUARD];
         if (got != expected) {
             printf("  cell %ld: expected %ld, got %ld\n", (long)i - GUARD + 1, (long)expected,
                    (long)got);
@@ -151,27 +157,42 @@ static bool same_cells(const int32_t *room_start, size_t room, const int32_t *ta
     return true;
 }
 
+/* rec_link's number, and whether room and count are as they have to be. */
+static uint32_t link_text(const uint8_t *text, size_t length, size_t room, const int32_t *table,
+                          size_t used, bool *good)
+{
+    int32_t *cells = room_end - room;
+    size_t counts[3] = {SIZE_MAX, SIZE_MAX, SIZE_MAX};
+    uint32_t number;
+    soil += 1000;
+    for (size_t i = 0; i < GUARD + room; i++)
+        cells[(ptrdiff_t)i - GUARD] = soiled(i);
+    number = (uint32_t)engine_link(text, length, cells, room, &counts[1]);
+    *good = same_cells(cells, room, table);
+    if (counts[1] != used || counts[0] != SIZE_MAX || counts[2] != SIZE_MAX) {
+        printf("  used cells: expected %zu, got %zu, with %zu and %zu beside it\n", used,
+               counts[1], counts[0], counts[2]);
+        *good = false;
+    }
+    return number;
+}
+
 /* `said` is the number that document 01 gives, where it was known before. */
 static bool compare(const uint8_t *words, size_t length, size_t room, uint32_t said)
 {
     static struct rec_tree tree;
-    static int32_t soil = 77000000;
-    int32_t table[REC_CELLS] = {0};
+    int32_t table[REC_CELLS];
     uint8_t *text = text_end - length;
-    int32_t *cells = room_end - room;
-    uint32_t number, linked;
-    int32_t checked;
-    bool good = true;
+    uint32_t number, checked, linked;
+    bool good;
     if (length > 0)
         memcpy(text, words, length);
-    soil++;
-    for (size_t i = 0; i < GUARD + room; i++)
-        cells[(ptrdiff_t)i - GUARD] = soil;
     number = rec_read(text, length, &tree);
     if (number == 0)
         rec_table(&tree, table);
-    checked = rec_check(text, length);
-    linked = (uint32_t)rec_link(text, length, cells, room);
+    checked = (uint32_t)engine_check(text, length);
+    linked = number == 0 ? link_text(text, length, room, table, tree.used, &good)
+                         : link_text(text, length, room, NULL, 0, &good);
     if (said != ANY && number != said) {
         printf("  the reference: expected %u, got %u\n", (unsigned)said, (unsigned)number);
         good = false;
@@ -180,7 +201,7 @@ static bool compare(const uint8_t *words, size_t length, size_t room, uint32_t s
         printf("  the reference: number %u is none of a text\n", (unsigned)number);
         good = false;
     }
-    if ((uint32_t)checked != number || linked != number) {
+    if (checked != number || linked != number) {
         printf("  number: expected %u, got %ld by rec_check and %ld by rec_link\n",
                (unsigned)number, (long)checked, (long)linked);
         good = false;
@@ -189,7 +210,6 @@ static bool compare(const uint8_t *words, size_t length, size_t room, uint32_t s
         puts("  the text is changed");
         good = false;
     }
-    good &= same_cells(cells, room, table, soil);
     if (good)
         count_text(text, length, room, number);
     else
@@ -259,21 +279,61 @@ static bool bytes_everywhere(void)
     return good;
 }
 
-/* Texts of 0 bytes wherever the pointer is. */
+/* A text that is refused with this number, whatever the pointer to it. */
+static bool refused(const uint8_t *text, size_t length, uint32_t number)
+{
+    bool good = engine_check(text, length) == (int32_t)number;
+    good &= link_text(text, length, REC_CELLS, NULL, 0, &good) == number;
+    if (!good)
+        printf("  a text of %zu bytes is not refused with %u\n", length, (unsigned)number);
+    return good;
+}
+
+/* Texts of 0 bytes wherever the pointer is; it may be null, as that to no room. */
 static bool empty_texts(void)
 {
     static const uint8_t text[4] = "()";
+    size_t used = 7;
     bool good = compare(text, 0, REC_CELLS, REC_UNFINISHED);
-    for (size_t i = 0; i <= sizeof text; i++) {
-        int32_t cells[REC_CELLS];
-        memset(cells, 1, sizeof cells);
-        good &= rec_check(text + i, 0) == REC_UNFINISHED;
-        good &= rec_link(text + i, 0, cells, REC_CELLS) == REC_UNFINISHED;
-        for (size_t j = 0; j < REC_CELLS; j++)
-            good &= cells[j] == 0;
+    for (size_t i = 0; i <= sizeof text; i++)
+        good &= refused(text + i, 0, REC_UNFINISHED);
+    good &= refused(NULL, 0, REC_UNFINISHED);
+    if (engine_link(NULL, 0, NULL, 0, &used) != REC_UNFINISHED || used != 0
+        || engine_link(text, 2, NULL, 0, &used) != 0 || used != 3) {
+        puts("  without a room: another number or another count");
+        good = false;
     }
-    if (!good)
-        puts("  an empty text is not unfinished");
+    return good;
+}
+
+/* A text of each number in rooms about 250: a refused one leaves every cell. */
+static bool rooms_of_each_number(void)
+{
+    static const size_t some[] = {0, 1, 100, 249, 250, 251, 300};
+    static const struct {
+        uint32_t number;
+        const char *words;
+        const char *filling;
+        size_t times;
+    } cases[] = {{0, "(N", "A", 200},
+                 {REC_LONG_TEXT, "(", " ", 256},
+                 {REC_STRAY_MARK, "(N#", "N", 9},
+                 {REC_DEEP, "(((((((((((", "", 0},
+                 {REC_BAD_COUNTER, "(NN$0$", "", 0},
+                 {REC_BAD_CONSTANT, "(NN'/x'", "", 0},
+                 {REC_UNFINISHED, "((N", "N", 9},
+                 {REC_TABLE_FULL, "(A", "N", 124},
+                 {REC_MANY_COUNTERS, "(", "$7$", 17}};
+    struct text text;
+    bool good = true;
+    for (size_t i = 0; i < sizeof cases / sizeof cases[0]; i++) {
+        text_clear(&text);
+        text_add(&text, cases[i].words);
+        text_fill(&text, cases[i].filling, cases[i].times);
+        text_add(&text, ")");
+        for (size_t j = 0; j < sizeof some / sizeof some[0]; j++)
+            good &= compare(text.bytes, text.length, some[j], cases[i].number);
+    }
     return good;
 }
 
@@ -313,21 +373,14 @@ static bool huge_text(void)
     size_t length = ((size_t)1 << 32) + 2;
     uint8_t *text = mmap(NULL, length, PROT_READ | PROT_WRITE,
                          MAP_PRIVATE | MAP_ANONYMOUS | MAP_NORESERVE, -1, 0);
-    int32_t cells[REC_CELLS];
     bool good;
     if (text == MAP_FAILED) {
         perror("links");
         exit(2);
     }
     memcpy(text, "()", 2);
-    memset(cells, 1, sizeof cells);
-    good = rec_check(text, length) == REC_LONG_TEXT
-           && rec_link(text, length, cells, REC_CELLS) == REC_LONG_TEXT;
-    for (size_t i = 0; i < REC_CELLS; i++)
-        good &= cells[i] == 0;
+    good = refused(text, length, REC_LONG_TEXT);
     munmap(text, length);
-    if (!good)
-        printf("  a text of %zu bytes is not a long one\n", length);
     return good;
 }
 
@@ -420,12 +473,27 @@ static bool cells(void)
     return good;
 }
 
+/* Document 01's word of each number, and `?` for what is none. */
+static bool words(void)
+{
+    bool good = true;
+    for (int32_t i = -300; i <= 300; i++) {
+        bool known = i >= 0 && i < REC_NUMBERS && (i <= REC_BAD_LINE || i >= REC_SPENT);
+        const char *expected = i == 0 ? "finished" : known ? number_word((uint32_t)i) : "?";
+        if (strcmp(engine_word(i), expected) != 0) {
+            printf("  the word of %ld: expected %s, got %s\n", (long)i, expected, engine_word(i));
+            good = false;
+        }
+    }
+    return good;
+}
+
 static bool directed(void)
 {
     text_end = fenced(TEXT_ROOM);
     room_end = fenced((ROOM + GUARD) * sizeof *room_end);
-    return empty_texts() && lengths() && huge_text() && levels() && counters() && cells()
-           && beginnings() && bytes_everywhere();
+    return words() && empty_texts() && rooms_of_each_number() && lengths() && huge_text()
+           && levels() && counters() && cells() && beginnings() && bytes_everywhere();
 }
 
 /* ---- rounds ------------------------------------------------------------ */

@@ -1,9 +1,9 @@
-/* Compares calls on damaged stores: the reference's store against the engine
- * behind door.h. Every figure, list place, output byte, cell, count and variable.
+/* Compares calls on damaged stores: the reference's store against the engine's.
+ * Every figure, list place, output byte, cell, count and variable.
  *
  *     stores [FIRST_SEED [ROUNDS]]      see work.h
  *
- * Built with calls.c, work.c, texts.c, the reference, libdoor.a and libhatch.a. */
+ * Built with calls.c, engine.c, work.c, texts.c, the reference and librec.a. */
 #include <stdio.h>
 #include <string.h>
 
@@ -356,8 +356,8 @@ static bool compare(struct random *r, struct rec_store *store, const struct call
     before = *store;
     other = *store;
     call_store(store, call, expected);
-    call_door(&other, call, &got);
-    good = same_sides(expected, &got);
+    good = call_engine(&other, call, &got);
+    good &= same_sides(expected, &got);
     good &= same_variables(store->variables, other.variables);
     good &= same_tables(store, &other);
     if (!good) {

@@ -26,7 +26,7 @@ static int differs(const char *what)
     return 1;
 }
 
-/* A crash behind the door, or no end, counts as a difference. */
+/* A crash, or no end, counts as a difference. */
 static void crashed(int number)
 {
     _Exit(differs(number == SIGALRM ? " (no end)" : " (a crash)"));

@@ -7,7 +7,6 @@ ghost use Rattle.figures.specs.Printed.{figures, told};
 ghost use Rattle.book.specs.Store.{storeOf};
 ghost use Rattle.lines.specs.Lines.{run};
 ghost use Rattle.console.specs.Desk.{paperBytes, granted, printed, performs, performed};
-use engine::lent;
 use figures::Figures;
 use figures::top;
 use figures::write_figures;

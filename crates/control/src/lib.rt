@@ -20,7 +20,7 @@ pub fn call<'a>(
     used: &'a [usize; LETTERS],
     base: usize,
     end: usize,
-    frames: &mut [usize; FRAMES],
+    frames: &mut [u32; FRAMES],
     a: usize,
 ) -> Machine
     requires { ⌜ Calling base end m a (now frames) ⌝ }
@@ -38,9 +38,9 @@ pub fn call<'a>(
     }
     let d = m.depth;
     if d < Table::CALLS {
-        frames[3 * d] = m.letter;
-        frames[3 * d + 1] = m.at + 2;
-        frames[3 * d + 2] = f;
+        frames[3 * d] = m.letter as u32;
+        frames[3 * d + 1] = (m.at + 2) as u32;
+        frames[3 * d + 2] = f as u32;
         let mut r = m;
         r.letter = a;
         r.at = Table::CODE_START;
@@ -74,7 +74,7 @@ pub fn end_of<'a>(
     cells: &'a [i32; STORE_CELLS],
     base: usize,
     end: usize,
-    frames: &'a [usize; FRAMES],
+    frames: &'a [u32; FRAMES],
 ) -> Machine
     requires { ⌜ Closing (now cells) base end m ⌝ }
     ensures { λ r. ⌜ Turns (dueAt (now (cells .entry)) base end) (framed m (now (frames .entry))) (framed r (now (frames .entry))) ⌝ }

@@ -1,16 +1,18 @@
 -- The desk within its input: what each byte does to the store, the count of lines and the line that is read. What a line prints goes to standard
 -- output, of which no contract speaks.
 use mathlib.Core.Path.{_≡_}
-use Prim.Native.Nat.{ℕ, suc, _+_, _≤_}
-use mathlib.Core.Bool.{cond}
+use Prim.Native.Nat.{ℕ, suc, _+_, _≤_, _<_}
+use mathlib.Core.Bool.{false, cond}
 use mathlib.Core.List.{List, [], _∷_, _++_}
 use lib.ListN.{length, take}
 use lib.Dec.{ltb, eqb}
 use Rattle.book.specs.Store.{Store}
 use Rattle.lines.specs.Lines.{maxLine}
 use Rattle.language.specs.Bytes.{newlineByte}
-use Rattle.console.specs.Desk.{deskLine}
+use Rattle.console.specs.Desk.{paperBytes, deskLine}
 use Rattle.desk.specs.declared.Desk.{Desk}
+use Rattle.desk.specs.declared.Room.{Room}
+use Rattle.desk.specs.declared.Room.the-variants.{After, Lost}
 
 -- "Lines past 9,999 are not read."
 abbrev pub maxLines : ℕ
@@ -82,7 +84,27 @@ pub record Fits (d : Desk) (l o : List ℕ) : Type 0 where
   pub line : length l ≡ keptBytes
   pub out : length o ≡ heldBytes
 
--- the desk d with the store st and the line buffer l has come to p
-pub record Comes (d : Desk) (st : Store) (l : List ℕ) (p : Progress) : Type 0 where
+-- after the bytes that are held there is room for what any line prints
+abbrev pub Roomy : Room → Type 0
+Roomy (After n) = n + paperBytes ≤ heldBytes
+Roomy Lost = Unit {0}
+
+-- a line may be obeyed, and there is room for what it prints after n bytes
+pub record Obeying (d : Desk) (n : ℕ) (l o : List ℕ) : Type 0 where
+  pub fits : Fits d l o
+  pub read : d .done < maxLines
+  pub room : n + paperBytes ≤ heldBytes
+
+-- The desk d with the store st and the line buffer l, to which the line of p was whole: it has done the line, or it is broken and has done nothing.
+pub record Finished (d : Desk) (st : Store) (l : List ℕ) (p : Progress) : Type 0 where
   pub within : Within d
-  pub to : progress st d l ≡ p
+  pub to : progress st d l ≡ cond (d .broken) p (ended p)
+
+-- The desk d with the store st and the line buffer l, to which a part was fed at p: it has come to what a beginning of the part leads to, and unless it is
+-- broken that is the whole part.
+pub record Fed (d : Desk) (st : Store) (l part : List ℕ) (p : Progress) : Type 0 where
+  pub within : Within d
+  pub taken : ℕ
+  pub inside : taken ≤ length part
+  pub to : progress st d l ≡ fed (take taken part) p
+  pub whole : d .broken ≡ false → taken ≡ length part

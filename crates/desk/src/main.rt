@@ -4,13 +4,15 @@ use console::perform;
 use language::LETTERS;
 use language::STORE_CELLS;
 use language::VARIABLES;
+use libc::STDERR_FILENO;
 use libc::STDIN_FILENO;
 use libc::STDOUT_FILENO;
+use lines::Command;
+use lines::INPUTS;
 use lines::LINE;
-ghost use Prim.Native.Nat.{_+_, _≤_};
-ghost use Rattle.console.specs.Desk.{paperBytes};
+use lines::parse;
 ghost use Rattle.book.specs.Store.{storeOf};
-ghost use Rattle.desk.specs.Input.{heldBytes, progress, ended, fed, Keeping, Kept, Holding, Within, Fits, Comes};
+ghost use Rattle.desk.specs.Input.{progress, Keeping, Kept, Holding, Roomy, Within, Fits, Obeying, Finished, Fed};
 
 // The desk within its input: how many lines are done, how many bytes of the next line are kept, and how many bytes of output are held. The store's
 // arrays, the line and the output are lent beside it.
@@ -18,6 +20,12 @@ struct Desk {
     done: u32,
     kept: usize,
     held: usize,
+    // the steps that the runs whose answers are held were allowed, up to PATIENCE
+    unseen: u32,
+    // a person types the input
+    person: bool,
+    // input or output has failed, and no line is obeyed any more
+    broken: bool,
 }
 
 // "Lines past 9,999 are not read."
@@ -28,6 +36,9 @@ const KEPT: usize = LINE + 1;
 
 // The bytes of output that are held before they are written.
 const HELD: usize = 65536;
+
+// The steps that a run may take, and all runs before it whose answers are held, without these being written first: a few milliseconds.
+const PATIENCE: u32 = 1000000;
 
 // One byte more of a line.
 fn keep(line: &mut [u8], kept: usize, b: u8) -> usize
@@ -41,19 +52,107 @@ fn keep(line: &mut [u8], kept: usize, b: u8) -> usize
     kept
 }
 
-// Where no line's output would fit any more, all that is held is written.
-fn make_room(out: &[u8], held: usize) -> usize
-    requires { ⌜ Holding held (now out) ⌝ }
-    ensures { λ r. ⌜ r + paperBytes ≤ heldBytes ⌝ }
-{
-    if out.len() - held < PAPER {
-        io::write_all(STDOUT_FILENO, &out[..held]);
-        return 0;
-    }
-    held
+// One line on standard error: what has failed, and the last line that was obeyed.
+fn complain(what: &[u8], done: u32) {
+    io::write_all(STDERR_FILENO, what);
+    io::write_all(STDERR_FILENO, b"; stopped after line ");
+    io::print_decimal(STDERR_FILENO, done as u64);
+    io::write_all(STDERR_FILENO, b"\n");
 }
 
-// The line that is kept is whole.
+// All that is held is written, or it is said that it can not be.
+fn write_held(out: &[u8], held: usize, done: u32) -> bool
+    requires { ⌜ Holding held (now out) ⌝ }
+{
+    let written = io::write_all(STDOUT_FILENO, &out[..held]);
+    if !written {
+        complain(b"desk: the answers cannot be written", done);
+    }
+    written
+}
+
+// Steps and more steps, counted up to PATIENCE.
+fn counted(steps: u32, more: u32) -> u32 {
+    if PATIENCE < more {
+        return PATIENCE;
+    }
+    if PATIENCE - more < steps {
+        return PATIENCE;
+    }
+    steps + more
+}
+
+// The steps before bytes that are held: none where nothing is.
+fn still_unseen(held: usize, steps: u32) -> u32 {
+    if held == 0 { 0 } else { steps }
+}
+
+// What is held is to be written before a line that would bring the steps to so many.
+fn is_pressing(person: bool, steps: u32) -> bool {
+    person || steps == PATIENCE
+}
+
+// The steps that a line may take: the allowance of a run.
+fn allowance_of(line: &[u8]) -> u32 {
+    let mut inputs = [0i32; INPUTS];
+    let command = parse(line, &mut inputs);
+    match command {
+        Command::Run(_, allowance, _) => allowance,
+        _ => 0,
+    }
+}
+
+// How many bytes are held when a line is to be obeyed, or none where what was held could not be written.
+enum Room {
+    After(usize),
+    Lost,
+}
+
+// What is held is written first where no line's output would fit any more, or where it is pressing.
+fn make_room(out: &[u8], held: usize, done: u32, pressing: bool) -> Room
+    requires { ⌜ Holding held (now out) ⌝ }
+    ensures { λ r. ⌜ Roomy r ⌝ }
+{
+    if !pressing {
+        if PAPER <= out.len() - held {
+            return Room::After(held);
+        }
+    }
+    if write_held(out, held, done) {
+        return Room::After(0);
+    }
+    Room::Lost
+}
+
+// The line that is kept is obeyed, and what it prints is held after what is held.
+fn obey(
+    desk: Desk,
+    held: usize,
+    asked: u32,
+    cells: &mut [i32; STORE_CELLS],
+    used: &mut [usize; LETTERS],
+    vars: &mut [i32; VARIABLES],
+    line: &[u8],
+    out: &mut [u8],
+) -> Desk
+    requires { ⌜ Obeying desk held (now line) (now out) ⌝ }
+    ensures { λ r. ⌜ Finished r (storeOf (now (cells .exit)) (now (used .exit)) (now (vars .exit))) (now (line .entry))
+        (progress (storeOf (now (cells .entry)) (now (used .entry)) (now (vars .entry))) desk (now (line .entry))) ⌝ }
+{
+    let number = desk.done + 1;
+    let kept = desk.kept;
+    let count = perform(cells, used, vars, number, &line[..kept], &mut out[held..]);
+    Desk {
+        done: number,
+        kept: 0, // the next line
+        held: held + count,
+        unseen: counted(still_unseen(held, desk.unseen), asked),
+        person: desk.person,
+        broken: false,
+    }
+}
+
+// The line that is kept is whole. What it may keep waiting is written first.
 fn finish(
     desk: Desk,
     cells: &mut [i32; STORE_CELLS],
@@ -63,21 +162,22 @@ fn finish(
     out: &mut [u8],
 ) -> Desk
     requires { ⌜ Fits desk (now line) (now out) ⌝ }
-    ensures { λ r. ⌜ Comes r (storeOf (now (cells .exit)) (now (used .exit)) (now (vars .exit))) (now (line .entry))
-        (ended (progress (storeOf (now (cells .entry)) (now (used .entry)) (now (vars .entry))) desk (now (line .entry)))) ⌝ }
+    ensures { λ r. ⌜ Finished r (storeOf (now (cells .exit)) (now (used .exit)) (now (vars .exit))) (now (line .entry))
+        (progress (storeOf (now (cells .entry)) (now (used .entry)) (now (vars .entry))) desk (now (line .entry))) ⌝ }
 {
     if LINES <= desk.done {
         return desk;
     }
-    let number = desk.done + 1;
     let kept = desk.kept;
-    let held = make_room(out, desk.held);
-    let count = perform(cells, used, vars, number, &line[..kept], &mut out[held..]);
-    Desk {
-        done: number,
-        kept: 0, // the next line
-        held: held + count,
-    }
+    let asked = allowance_of(&line[..kept]);
+    let pressing = is_pressing(desk.person, counted(desk.unseen, asked));
+    let room = make_room(out, desk.held, desk.done, pressing);
+    let Room::After(held) = room else {
+        let mut lost = desk;
+        lost.broken = true;
+        return lost;
+    };
+    obey(desk, held, asked, cells, used, vars, line, out)
 }
 
 // A part of the input. What it prints is written before more is read.
@@ -91,8 +191,8 @@ fn feed(
     out: &mut [u8],
 ) -> Desk
     requires { ⌜ Fits desk (now line) (now out) ⌝ }
-    ensures { λ r. ⌜ Comes r (storeOf (now (cells .exit)) (now (used .exit)) (now (vars .exit))) (now (line .exit))
-        (fed (now (part .entry)) (progress (storeOf (now (cells .entry)) (now (used .entry)) (now (vars .entry))) desk (now (line .entry)))) ⌝ }
+    ensures { λ r. ⌜ Fed r (storeOf (now (cells .exit)) (now (used .exit)) (now (vars .exit))) (now (line .exit)) (now (part .entry))
+        (progress (storeOf (now (cells .entry)) (now (used .entry)) (now (vars .entry))) desk (now (line .entry))) ⌝ }
 {
     let mut d = desk;
     let mut i: usize = 0;
@@ -101,12 +201,15 @@ fn feed(
         i += 1;
         if b == b'\n' {
             d = finish(d, cells, used, vars, line, out);
+            if d.broken {
+                return d;
+            }
         } else {
             d.kept = keep(line, d.kept, b);
         }
     }
     let held = d.held;
-    io::write_all(STDOUT_FILENO, &out[..held]);
+    d.broken = !write_held(out, held, d.done);
     d.held = 0;
     d
 }
@@ -130,14 +233,23 @@ fn read_some(
 {
     let mut buffer = io::large_buffer();
     let got = libc::read(STDIN_FILENO, &mut buffer);
-    if got <= 0 {
+    if got < 0 {
+        complain(b"desk: the input cannot be read", desk.done);
+        let mut lost = desk;
+        lost.broken = true;
+        return Turn {
+            desk: lost,
+            more: false,
+        };
+    }
+    if got == 0 {
         return Turn { desk, more: false };
     }
     let n = io::count(got, &buffer);
     let next = feed(desk, cells, used, vars, &buffer[..n], line, out);
     Turn {
         desk: next,
-        more: next.done < LINES,
+        more: !next.broken && next.done < LINES,
     }
 }
 
@@ -175,9 +287,12 @@ fn main() {
         done: 0,
         kept: 0,
         held: 0,
+        unseen: 0,
+        person: libc::isatty(STDIN_FILENO) == 1,
+        broken: false,
     };
     let d = read_all(start, &mut cells, &mut used, &mut vars, &mut line, &mut out);
-    if 0 < d.kept {
+    if 0 < d.kept && !d.broken {
         // "the newline, which the last may lack"
         feed(
             d,

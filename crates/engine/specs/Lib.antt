@@ -1,3 +1,2 @@
 pub mod Stored
-pub mod Lent
 pub mod Demand3

@@ -8,7 +8,6 @@ use language::LETTERS;
 use language::STORE_CELLS;
 use language::VARIABLES;
 
-pub mod lent;
 mod steps;
 
 // 26 letters' tables with their used-cell counts, and ten variables. The cells of letter a are the first 250.

@@ -40,8 +40,8 @@ pub fn drive<'a>(
         (ran (now (cells .entry)) (now (used .entry)) letter allowance (now (vars .entry)) (now (inputs .entry)) (now (output .entry)))
         r (now (vars .exit)) (now (list .exit)) (now (output .exit)) ⌝ }
 {
-    let mut frames = [0usize; FRAMES];
-    let mut counts = [0usize; COUNTS];
+    let mut frames = [0u32; FRAMES];
+    let mut counts = [0u32; COUNTS];
     let mut slots = [0i32; HEIGHT];
     let mut m = Machine {
         letter: letter,

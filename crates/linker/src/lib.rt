@@ -1,12 +1,9 @@
 // The linker: from a source text to its code table, or to the number of its refusal.
 ghost use mathlib.Core.Path.{_≡_};
-ghost use Prim.Native.Nat.{min};
-ghost use lib.Seq.{paste};
 ghost use Rattle.language.specs.Answers.{refusalNumber};
 ghost use Rattle.language.specs.Layout.{cleared};
-ghost use Rattle.language.specs.Limits.{maxCells};
 ghost use Rattle.language.specs.Reading.{read};
-ghost use Rattle.linker.specs.Linked.{linked, Handed, Copies};
+ghost use Rattle.linker.specs.Linked.{linked};
 use assembler::exits::fill;
 use assembler::scan::scan;
 use language::Refusal;
@@ -75,45 +72,4 @@ pub fn link(text: &[u8]) -> Linked
             cells,
         },
     }
-}
-
-// For C: 0, or the number of the refusal.
-#[no_mangle]
-pub extern "C" fn rec_check(text: &[u8]) -> u32
-    ensures { λ r. ⌜ r ≡ linked (read (now (text .entry))) .number ⌝ }
-{
-    let checked = link(text);
-    checked.number
-}
-
-// The first n cells of a table in the first n of the lent places.
-fn copy_cells(table: &[i32; Table::CELLS], places: &mut [i32], n: usize)
-    requires { ⌜ Copies (now table) (now places) n ⌝ }
-    ensures { λ _. ⌜ now (places .exit) ≡ paste (now (places .entry)) 0 (now (table .entry)) n ⌝ }
-{
-    let mut i: usize = 0;
-    while i < n {
-        places[i] = table[i];
-        i += 1;
-    }
-}
-
-// n, and at most the cells of a table.
-fn at_most(n: usize) -> usize
-    ensures { λ r. ⌜ r ≡ min maxCells n ⌝ }
-{
-    if Table::CELLS < n { Table::CELLS } else { n }
-}
-
-// For C: the same, and the table's cells in the places that are lent, up to 250 of them; the other places stay as they were.
-#[no_mangle]
-pub extern "C" fn rec_link(text: &[u8], cells: &mut [i32]) -> u32
-    ensures { λ r. ⌜ Handed (linked (read (now (text .entry)))) r (now (cells .entry)) (now (cells .exit)) ⌝ }
-{
-    let l = link(text);
-    let t = l.table;
-    let table = t.cells;
-    let n = at_most(cells.len());
-    copy_cells(&table, cells, n);
-    l.number
 }

@@ -11,8 +11,10 @@ use lib.Signed.{ltZ, nonNeg}
 use mir.Syntax.{w8, w32, w64}
 use mir.Val.{SFits, Fits}
 use borrow.Author.Tests.{lt-ltb, le-ltb, ltb-true, ltb-false, le-leb, lt-leb, eq-eqb, ne-eqb}
+use Rattle.language.specs.declared.Table.{Table}
+use Rattle.language.specs.Machine.{cell}
 use Rattle.language.specs.Syntax.{constantCode}
-use Rattle.operands.specs.Operands.{transferByte, targetOf, boundedOf, negatedOf, byteOf, printOf, printsFrom, printable}
+use Rattle.operands.specs.Operands.{transferByte, targetOf, exitOf, boundedOf, negatedOf, byteOf, printOf, printsFrom, printable}
 use Rattle.language.proofs.Tests.{by-ltb}
 
 wrong : {X : Type 0} → true ≡ false → X
@@ -47,6 +49,11 @@ unfolding targetOf
 target-le (pos n) u =
     by-ltb n 2 (λ t. cond t 0 (cond (ltb u n) 0 n) ≤ u) (λ h. omega arith) (λ h. by-ltb u n (λ t. cond t 0 n ≤ u) (λ k. omega arith) (λ k. k))
 target-le (negsuc n) u = omega arith
+
+-- nor is a false exit
+pub exit-le : (t : Table) (q : ℕ) → exitOf t q ≤ t .used
+unfolding exitOf
+exit-le t q = by-ltb (t .used) (q + 3) (λ b. cond b 0 (targetOf (cell t (suc q)) (t .used)) ≤ t .used) (λ h. omega arith) (λ h. target-le (cell t (suc q)) (t .used))
 
 -- a negative number
 pub bounded-low : (m d : ℕ) (x : ℤ) → ltZ x (pos 0) ≡ true → d ≡ boundedOf m d x
@@ -89,6 +96,12 @@ negated-in zero (negsuc n) e g = wrong g
 negated-in (suc m) (negsuc n) e g =
     let h = ltb-false m n g in
     ((tt, omega arith), rw (lt-ltb n (suc m) (omega arith)) (omega arith))
+
+-- no more than m
+pub negated-le : (m : ℕ) (x : ℤ) → negatedOf m x ≤ m
+unfolding negatedOf
+negated-le m (pos n) = omega arith
+negated-le m (negsuc n) = by-ltb n m (λ b. cond b (suc n) 0 ≤ m) (λ h. omega arith) (λ h. omega arith)
 
 at-most : (m d : ℕ) (t : Bool) (n : ℕ) → m ≤ d → ltb m n ≡ t → cond t d n ≤ d
 at-most m d true n h e = omega arith

@@ -67,6 +67,7 @@ pub record Printing (base end : ℕ) (m : Machine) (o : List ℕ) : Type 0 where
 pub record Calling (base end : ℕ) (m : Machine) (a : ℕ) (frames : List ℕ) : Type 0 where
   pub inside : Inside base end (m .at)
   pub depth : m .depth ≤ maxCalls
+  pub caller : m .letter < maxLetters
   pub letter : a < maxLetters
   pub size : length frames ≡ frameNumbers
 

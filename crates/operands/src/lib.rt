@@ -26,6 +26,13 @@ pub struct Machine {
     pub state: usize,
 }
 
+// A number kept in half the width.
+pub fn wide(n: u32) -> usize
+    ensures { λ r. ⌜ r ≡ n ⌝ }
+{
+    n as usize
+}
+
 impl Machine {
     // The run goes on. This state and the next two are no ending's number.
     pub const GOES: usize = 0;
@@ -59,7 +66,7 @@ impl Machine {
     }
 
     // The code of a letter ends, with the state TRUE or FALSE: its caller goes on, or the run is over.
-    pub fn leave(self, frames: &[usize; FRAMES], truth: usize) -> Machine
+    pub fn leave(self, frames: &[u32; FRAMES], truth: usize) -> Machine
         requires { ⌜ Leaving self truth ⌝ }
         ensures { λ r. ⌜ Turns (returned (eqb truth 1)) (framed self (now (frames .entry))) (framed r (now (frames .entry))) ⌝ }
     {
@@ -70,8 +77,8 @@ impl Machine {
             return m;
         }
         let d = depth - 1;
-        m.letter = frames[3 * d];
-        m.at = frames[3 * d + truth];
+        m.letter = wide(frames[3 * d]);
+        m.at = wide(frames[3 * d + truth]);
         m.depth = d;
         m.state = Machine::GOES;
         m

@@ -12,6 +12,7 @@ use operands::cells::MOST_LIMIT;
 use operands::cells::bounded;
 use operands::cells::negated;
 use operands::cells::target;
+use operands::wide;
 
 // A counter's "order in the text from 0".
 const LAST_ORDER: usize = Table::COUNTERS - 1;
@@ -22,7 +23,7 @@ pub fn counter(
     cells: &[i32; STORE_CELLS],
     base: usize,
     end: usize,
-    counts: &mut [usize; COUNTS],
+    counts: &mut [u32; COUNTS],
 ) -> Machine
     requires { ⌜ Reading base end m ⌝ }
     ensures { λ r. ⌜ Turns (markAt (now (cells .entry)) base end isCounter) (counting m (now (counts .entry))) (counting r (now (counts .exit))) ⌝ }
@@ -47,9 +48,9 @@ pub fn counter(
         return m.stop(Ending::Spent);
     }
     let i = m.letter * Table::COUNTERS + k;
-    let c = counts[i];
+    let c = wide(counts[i]);
     if c < n {
-        counts[i] = c + 1;
+        counts[i] = (c + 1) as u32;
         return m.go(at + 4, m.height);
     }
     // Never so. The test keeps this way a branch: a select of the two ways would wait for the count, at half the speed.

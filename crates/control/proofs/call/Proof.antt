@@ -6,6 +6,8 @@ use denote.Ref.{now}
 use borrow.Author.Tests.{lt-ltb, le-ltb, eq-eqb, ne-eqb}
 use borrow.Author.Needs.{needs}
 use Rattle.language.specs.Effects.{onCall}
+use Rattle.language.specs.Tables.{tableFrom}
+use Rattle.operands.proofs.Operands.{exit-le}
 use Rattle.operands.proofs.OperandsDecoding.{call-read}
 use Rattle.operands.proofs.Held.{length-frames, frames-push}
 use Rattle.control.proofs.call.Statement.{statement}
@@ -30,23 +32,28 @@ returns-3 c =
       size = c .before .before .before .before .before .before .before .pre .size;
     }
 
+cast-frames-3 : tie.Need-cast-frames-3
+cast-frames-3 c =
+    let x = c .before .before .before .before .before .before .before .before in
+    record { fits = omega (arith, x .exit-of .ensures, exit-le (tableFrom (now (x .before .args .cells)) (x .before .args .base) (x .before .args .end)) (x .before .args .m .at), x .before .pre .inside .used) }
+
 returns-4 : tie.Need-returns-4
 unfolding onCall
 returns-4 c =
-    let s = c .before .before .before .before .before .before .before .before .before in
+    let s = c .before .before .before .before .before .before .before .before .before .before in
     let m = s .args .m in
     let fr = now (s .args .frames) in
     record {
       turns = λ h.
           rw (
             call-read,
-            ← c .before .before .before .before .before .before .before .before .exit-of .ensures,
-            ne-eqb _ _ (c .before .before .before .before .before .before .before .if1 .left),
-            ne-eqb _ _ (c .before .before .before .before .before .if2 .left),
-            ne-eqb _ _ (c .before .before .before .if3 .left),
+            ← c .before .before .before .before .before .before .before .before .before .exit-of .ensures,
+            ne-eqb _ _ (c .before .before .before .before .before .before .before .before .if1 .left),
+            ne-eqb _ _ (c .before .before .before .before .before .before .if2 .left),
+            ne-eqb _ _ (c .before .before .before .before .if3 .left),
             length-frames fr (m .depth),
-            lt-ltb _ _ (c .before .before .if4 .taken),
-            frames-push fr (m .depth) (m .letter) (m .at + 2) (c .before .before .before .before .before .before .before .before .exit-of .result) (omega arith),
+            lt-ltb _ _ (c .before .before .before .if4 .taken),
+            frames-push fr (m .depth) (m .letter) (m .at + 2) (c .before .before .before .before .before .before .before .before .before .exit-of .result) (omega arith),
           );
       size = simp length-set (s .pre .size);
     }
@@ -74,5 +81,5 @@ pub call-spec : {M : Type 1} → statement M
 call-spec =
     tie.close (tie.spec (λ c κs. search needs) (λ c κs. search needs) returns (λ c κs. search needs) returns-2 (λ c. search needs) (λ c. search needs)
     (λ c κs. search needs) returns-3 (λ c. search needs) (λ c. search needs) (λ c. search needs) (λ c. search needs) (λ c. search needs)
-    (λ c. search needs) (λ c. search needs) (λ c. search needs) (λ c. search needs) (λ c. search needs) (λ c. search needs) (λ c. search needs)
-    (λ c. search needs) (λ c. search needs) (λ c κs. search needs) returns-4 returns-5)
+    (λ c. search needs) (λ c. search needs) (λ c. search needs) (λ c. search needs) (λ c. search needs) cast-frames-3 (λ c. search needs)
+    (λ c. search needs) (λ c. search needs) (λ c. search needs) (λ c. search needs) (λ c. search needs) (λ c κs. search needs) returns-4 returns-5)

@@ -196,6 +196,7 @@ call-requires c κs =
     record {
       inside = inside (c .before .before .before .before) b (letter-due b (c .before .before .if1 .left) (below b (c .before .if2 .taken))) refl;
       depth = s .pre .depth;
+      caller = s .pre .letter;
       letter = omega (arith, c .before .if2 .taken);
       size = s .pre .size;
     }

@@ -1,5 +1,5 @@
 -- `predicates::counters::counter` meets its contract.
-use mathlib.Core.Path.{_≡_, sym, ap, _∙_}
+use mathlib.Core.Path.{_≡_, sym, ap, subst, _∙_}
 use Prim.Native.Nat.{ℕ, suc, _+_, _-_, _≤_, _<_}
 use native.Mathlib.Omega.{arith}
 use lib.IntN.{ℤ, pos}
@@ -10,12 +10,12 @@ use denote.Ref.{now}
 use borrow.Author.Tests.{eq-eqb, ne-eqb}
 use borrow.Author.Needs.{needs}
 use Rattle.language.specs.declared.Table.{Table}
-use Rattle.language.specs.Limits.{maxCells, maxCounters}
+use Rattle.language.specs.Limits.{maxCells, maxCounters, maxLimit}
 use Rattle.language.specs.Machine.{pick, cell, mark, isCounter}
 use Rattle.language.specs.Tables.{tableFrom}
 use Rattle.operands.specs.Held.{stateOf, counting}
 use Rattle.operands.specs.Operands.{limitOf, orderOf, targetOf, counterAt}
-use Rattle.operands.proofs.Operands.{bounded-le, target-le}
+use Rattle.operands.proofs.Operands.{bounded-le, negated-le, target-le}
 use Rattle.operands.proofs.Tables.{cell-at}
 use Rattle.operands.proofs.OperandsDecoding.{count-read, counter-short, counter-number, counter-order, counter-false, counter-good}
 use Rattle.predicates.proofs.Effects.{count-true, count-false}
@@ -85,47 +85,55 @@ returns-5 c = λ h.
 add-i : tie.Need-add-i
 add-i c = omega (arith, small (c .before .before .before .before .before .before))
 
-mul-c : tie.Need-mul-c
-mul-c c = omega (arith, small (c .before .before .before .before .before .before))
+mul-wide : tie.Need-mul-wide
+mul-wide c = omega (arith, small (c .before .before .before .before .before .before))
 
-element-copy-out-c : tie.Need-element-copy-out-c
-element-copy-out-c c = omega (arith, small (c .before .before .before .before .before .before), c .before .before .before .before .if3 .left)
+element-copy-out-wide : tie.Need-element-copy-out-wide
+element-copy-out-wide c = omega (arith, small (c .before .before .before .before .before .before), c .before .before .before .before .if3 .left)
+
+cast-counts : tie.Need-cast-counts
+cast-counts c =
+    let n = c .before .before .before .before .before .before .before .before .before .before .before .before .before .negated in
+    let h : n .result ≤ maxLimit = rw (n .ensures) (negated-le maxLimit _) in
+    record { fits = omega (arith, c .if6 .taken, h) }
 
 mul-counts : tie.Need-mul-counts
-mul-counts c = omega (arith, small (c .before .before .before .before .before .before .before .before))
+mul-counts c = omega (arith, small (c .before .before .before .before .before .before .before .before .before))
 
 element-write-counts : tie.Need-element-write-counts
-element-write-counts c = omega (arith, small (c .before .before .before .before .before .before .before .before), c .before .before .before .before .before .before .if3 .left)
+element-write-counts c = omega (arith, small (c .before .before .before .before .before .before .before .before .before), c .before .before .before .before .before .before .before .if3 .left)
 
 returns-6 : tie.Need-returns-6
 unfolding pick
 returns-6 c = λ h.
-    let a = c .before .before .before .before .before .before .before .before .before .before .before .before .before .before .before .before .args in
+    let a = c .before .before .before .before .before .before .before .before .before .before .before .before .before .before .before .before .before .args in
+    let w = c .before .before .wide .ensures in
     rw (
       c .go .ensures,
-      reading (c .before .before .before .before .before .before .before .before .before) ∙ counter-good _ _ _ _ _ (c .before .before .before .before .before .before .before .before .before .before .before .before .before .before .before .if1 .left) (c .before .before .before .before .before .before .before .before .if2 .left) (c .before .before .before .before .before .before .before .if3 .left) (c .before .before .before .before .before .before .if4 .left),
-      ne-eqb _ _ (c .before .before .before .before .if5 .left),
-      count-true (stateOf (counting (a .m) (now (a .counts)) h)) (a .m .letter) (c .before .before .before .before .before .before .before .before .before .before .before .before .before .negated .result) (c .before .before .before .before .before .before .before .before .before .before .before .bounded .result) (c .before .before .before .before .before .before .before .before .if2 .left) (c .before .if6 .taken),
+      w,
+      reading (c .before .before .before .before .before .before .before .before .before .before) ∙ counter-good _ _ _ _ _ (c .before .before .before .before .before .before .before .before .before .before .before .before .before .before .before .before .if1 .left) (c .before .before .before .before .before .before .before .before .before .if2 .left) (c .before .before .before .before .before .before .before .before .if3 .left) (c .before .before .before .before .before .before .before .if4 .left),
+      ne-eqb _ _ (c .before .before .before .before .before .if5 .left),
+      count-true (stateOf (counting (a .m) (now (a .counts)) h)) (a .m .letter) (c .before .before .before .before .before .before .before .before .before .before .before .before .before .before .negated .result) (c .before .before .before .before .before .before .before .before .before .before .before .before .bounded .result) (c .before .before .before .before .before .before .before .before .before .if2 .left) (subst (λ k. k < c .before .before .before .before .before .before .before .before .before .before .before .before .before .before .negated .result) w (c .before .if6 .taken)),
     )
 
 returns-7 : tie.Need-returns-7
-returns-7 c = λ h. absurd (omega (arith, near (c .before .before .before .before .before .before .before .before .before .before), c .before .if7 .taken))
+returns-7 c = λ h. absurd (omega (arith, near (c .before .before .before .before .before .before .before .before .before .before .before), c .before .if7 .taken))
 
 mul-counts-2 : tie.Need-mul-counts-2
-mul-counts-2 c = omega (arith, small (c .before .before .before .before .before .before .before .before .before))
+mul-counts-2 c = omega (arith, small (c .before .before .before .before .before .before .before .before .before .before))
 
 element-write-counts-2 : tie.Need-element-write-counts-2
-element-write-counts-2 c = omega (arith, small (c .before .before .before .before .before .before .before .before .before), c .before .before .before .before .before .before .before .if3 .left)
+element-write-counts-2 c = omega (arith, small (c .before .before .before .before .before .before .before .before .before .before), c .before .before .before .before .before .before .before .before .if3 .left)
 
 returns-8 : tie.Need-returns-8
 unfolding pick
 returns-8 c = λ h.
-    let a = c .before .before .before .before .before .before .before .before .before .before .before .before .before .before .before .before .before .args in
+    let a = c .before .before .before .before .before .before .before .before .before .before .before .before .before .before .before .before .before .before .args in
     rw (
       c .go2 .ensures,
-      reading (c .before .before .before .before .before .before .before .before .before .before) ∙ counter-good _ _ _ _ _ (c .before .before .before .before .before .before .before .before .before .before .before .before .before .before .before .before .if1 .left) (c .before .before .before .before .before .before .before .before .before .if2 .left) (c .before .before .before .before .before .before .before .before .if3 .left) (c .before .before .before .before .before .before .before .if4 .left),
-      ne-eqb _ _ (c .before .before .before .before .before .if5 .left),
-      count-false (stateOf (counting (a .m) (now (a .counts)) h)) (a .m .letter) (c .before .before .before .before .before .before .before .before .before .before .before .before .before .before .negated .result) (c .before .before .before .before .before .before .before .before .before .before .before .before .bounded .result) (c .before .before .before .before .before .before .before .before .before .if2 .left) (c .before .before .if6 .left),
+      reading (c .before .before .before .before .before .before .before .before .before .before .before) ∙ counter-good _ _ _ _ _ (c .before .before .before .before .before .before .before .before .before .before .before .before .before .before .before .before .before .if1 .left) (c .before .before .before .before .before .before .before .before .before .before .if2 .left) (c .before .before .before .before .before .before .before .before .before .if3 .left) (c .before .before .before .before .before .before .before .before .if4 .left),
+      ne-eqb _ _ (c .before .before .before .before .before .before .if5 .left),
+      count-false (stateOf (counting (a .m) (now (a .counts)) h)) (a .m .letter) (c .before .before .before .before .before .before .before .before .before .before .before .before .before .before .before .negated .result) (c .before .before .before .before .before .before .before .before .before .before .before .before .before .bounded .result) (c .before .before .before .before .before .before .before .before .before .before .if2 .left) (subst (λ k. c .before .before .before .before .before .before .before .before .before .before .before .before .before .before .before .negated .result ≤ k) (c .before .before .before .wide .ensures) (c .before .before .if6 .left)),
     )
 
 pub counter-spec : {M : Type 1} → statement M
@@ -133,6 +141,6 @@ counter-spec =
     tie.close (tie.spec (λ c. search needs) (λ c κs. search needs) returns (λ c. search needs) (λ c. search needs) (λ c. search needs)
     (λ c κs. search needs) (λ c. search needs) (λ c. search needs) (λ c. search needs) (λ c. search needs) (λ c κs. search needs) (λ c. search needs)
     (λ c. search needs) (λ c. search needs) (λ c. search needs) (λ c κs. search needs) (λ c κs. search needs) returns-2 (λ c κs. search needs)
-    returns-3 (λ c κs. search needs) returns-4 (λ c κs. search needs) returns-5 (λ c. search needs) add-i mul-c element-copy-out-c (λ c. search needs)
-    mul-counts element-write-counts (λ c. search needs) (λ c κs. search needs) returns-6 (λ c κs. search needs) returns-7 mul-counts-2
-    element-write-counts-2 (λ c κs. search needs) returns-8)
+    returns-3 (λ c κs. search needs) returns-4 (λ c κs. search needs) returns-5 (λ c. search needs) add-i mul-wide element-copy-out-wide
+    (λ c κs. search needs) (λ c. search needs) cast-counts mul-counts element-write-counts (λ c. search needs) (λ c κs. search needs) returns-6
+    (λ c κs. search needs) returns-7 mul-counts-2 element-write-counts-2 (λ c κs. search needs) returns-8)

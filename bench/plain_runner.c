@@ -1,0 +1,208 @@
+/* An interpreter in plain C: one loop over the cells, with the checks of rec_run. */
+#include "plain_runner.h"
+#include <string.h>
+
+struct frame { int letter, next, exit; };
+
+static int outside(int32_t value) { return value < -REC_VALUE_MAX || REC_VALUE_MAX < value; }
+
+int plain_sound(const rec_store *store) {
+    for (int i = 0; i < REC_LETTERS; i++)
+        if (store->used[i] > REC_CELLS || store->used[i] == 1 || store->used[i] == 2) return 0;
+    for (int i = 0; i < REC_VARIABLES; i++)
+        if (outside(store->vars[i])) return 0;
+    return 1;
+}
+
+static int target_of(int32_t x, int used) { return x < 2 || used < x ? 0 : x; }
+
+/* A run that is not refused. Apart from plain_run, inside which it is slower. */
+__attribute__((noinline)) static int32_t obey(const int32_t *cells, const size_t *used, int32_t *kept, int letter, uint32_t allowance,
+                                              const int32_t *inputs, size_t count, int32_t *list, uint8_t *output, size_t room, rec_report *report) {
+    int32_t stack[REC_LIST] = {0}, vars[REC_VARIABLES];
+    size_t counts[REC_LETTERS * REC_COUNTERS] = {0};
+    struct frame frames[REC_CALLS];
+    int at = 2, height = 0, depth = 0, end = 0, truth = 0;
+    size_t taken = 0, written = 0;
+    uint32_t left = allowance;
+    memcpy(vars, kept, sizeof vars);
+    for (;;) {
+        int n = (int)used[letter];
+        const int32_t *t = cells + letter * REC_CELLS - 1;
+        if (at < 2 || n < at) { end = REC_DAMAGED; break; }
+        int32_t x = t[at];
+        if (at == n) {
+            if (x != 1) { end = REC_DAMAGED; break; }
+            if (depth == 0) { truth = 1; break; }
+            depth--; letter = frames[depth].letter; at = frames[depth].next;
+            continue;
+        }
+        if (at + 1 == n) {
+            if (x != 0) { end = REC_DAMAGED; break; }
+            if (left == 0) { end = REC_SPENT; break; }
+            left--;
+            if (depth == 0) break;
+            depth--; letter = frames[depth].letter; at = frames[depth].exit;
+            continue;
+        }
+        if (0 < x) {
+            if (x < 2 || n < x) { end = REC_DAMAGED; break; }
+            if (left == 0) { end = REC_SPENT; break; }
+            left--; at = x;
+            continue;
+        }
+        switch (-x) {
+        case '$': {
+            if (n < at + 5) { end = REC_DAMAGED; goto out; }
+            int32_t limit = t[at + 1], order = t[at + 2];
+            int f = target_of(t[at + 3], n);
+            if (-1 < limit || limit < -9999 || order < 0 || 15 < order || f == 0) { end = REC_DAMAGED; goto out; }
+            if (left == 0) { end = REC_SPENT; goto out; }
+            size_t *c = &counts[letter * 16 + order];
+            left--;
+            if (*c < (size_t)-limit) { ++*c; at += 4; } else { *c = 0; at = f; }
+            break;
+        }
+        case '+': case '-': case '*': case '/': {
+            if (left == 0) { end = REC_SPENT; goto out; }
+            if (height < 2) { end = REC_LIST_EMPTY; goto out; }
+            int64_t a = stack[height - 2], b = stack[height - 1], r;
+            if (x == -'/' && b == 0) { end = REC_ZERO_DIVISOR; goto out; }
+            r = x == -'+' ? a + b : x == -'-' ? a - b : x == -'*' ? a * b : a / b;
+            if (r < -REC_VALUE_MAX || REC_VALUE_MAX < r) { end = REC_RANGE; goto out; }
+            stack[height - 2] = (int32_t)r; stack[height - 1] = 0;
+            height--; left--; at++;
+            break;
+        }
+        case 'A': case 'M': {
+            if (left == 0) { end = REC_SPENT; goto out; }
+            if (height < 1) { end = REC_LIST_EMPTY; goto out; }
+            int64_t a = stack[height - 1], r = x == -'M' || a < 0 ? -a : a;
+            if (r < -REC_VALUE_MAX || REC_VALUE_MAX < r) { end = REC_RANGE; goto out; }
+            stack[height - 1] = (int32_t)r;
+            left--; at++;
+            break;
+        }
+        case 'L':
+            if (left == 0) { end = REC_SPENT; goto out; }
+            if (height < 1) { end = REC_LIST_EMPTY; goto out; }
+            stack[--height] = 0; left--; at++;
+            break;
+        case 'P':
+            if (left == 0) { end = REC_SPENT; goto out; }
+            if (height < 1) { end = REC_LIST_EMPTY; goto out; }
+            if (REC_LIST <= height) { end = REC_LIST_FULL; goto out; }
+            stack[height] = stack[height - 1]; height++; left--; at++;
+            break;
+        case 'I':
+            if (left == 0) { end = REC_SPENT; goto out; }
+            if (count <= taken) { end = REC_NO_INPUT; goto out; }
+            if (REC_LIST <= height) { end = REC_LIST_FULL; goto out; }
+            stack[height++] = inputs[taken++]; left--; at++;
+            break;
+        case 'O': {
+            if (left == 0) { end = REC_SPENT; goto out; }
+            if (height < 1) { end = REC_LIST_EMPTY; goto out; }
+            if (room - written < 12) { end = REC_PAPER_OUT; goto out; }
+            int64_t v = stack[height - 1];
+            uint64_t m = (uint64_t)(v < 0 ? -v : v);
+            uint8_t *p = output + written;
+            memset(p, ' ', 12);
+            int k = 11;
+            for (; 9 < m; m /= 10) p[k--] = (uint8_t)('0' + m % 10);
+            p[k] = (uint8_t)('0' + m);
+            if (v < 0) p[k - 1] = '-';
+            written += 12; left--; at++;
+            break;
+        }
+        case 'X':
+            if (left == 0) { end = REC_SPENT; goto out; }
+            if (room <= written) { end = REC_PAPER_OUT; goto out; }
+            output[written++] = '\n'; left--; at++;
+            break;
+        case 'F': case 'S': {
+            if (n < at + 3) { end = REC_DAMAGED; goto out; }
+            int32_t d = t[at + 1];
+            if (d < 1 || 10 < d) { end = REC_DAMAGED; goto out; }
+            if (left == 0) { end = REC_SPENT; goto out; }
+            if (x == -'F') {
+                if (REC_LIST <= height) { end = REC_LIST_FULL; goto out; }
+                stack[height++] = vars[d % 10];
+            } else {
+                if (height < 1) { end = REC_LIST_EMPTY; goto out; }
+                vars[d % 10] = stack[height - 1];
+            }
+            left--; at += 2;
+            break;
+        }
+        case 'N': case '0': case 'J': {
+            int f = n < at + 3 ? 0 : target_of(t[at + 1], n);
+            if (f == 0) { end = REC_DAMAGED; goto out; }
+            if (left == 0) { end = REC_SPENT; goto out; }
+            if (height < (x == -'J' ? 2 : 1)) { end = REC_LIST_EMPTY; goto out; }
+            int32_t a = stack[height - 1];
+            int yes = x == -'N' ? a < 0 : x == -'0' ? a == 0 : a == stack[height - 2];
+            left--; at = yes ? at + 2 : f;
+            break;
+        }
+        case 175: {
+            if (n < at + 3) { end = REC_DAMAGED; goto out; }
+            int32_t v = t[at + 1];
+            if (v < -REC_VALUE_MAX || REC_VALUE_MAX < v) { end = REC_DAMAGED; goto out; }
+            if (left == 0) { end = REC_SPENT; goto out; }
+            if (REC_LIST <= height) { end = REC_LIST_FULL; goto out; }
+            stack[height++] = v; left--; at += 2;
+            break;
+        }
+        case 167: {
+            if (n < at + 3) { end = REC_DAMAGED; goto out; }
+            int32_t k = t[at + 1];
+            if (k < 0 || 250 < k || n < at + 3 + k) { end = REC_DAMAGED; goto out; }
+            for (int i = 0; i < k; i++) {
+                int32_t b = t[at + 2 + i];
+                if (b < 32 || 126 < b || b == 39) { end = REC_DAMAGED; goto out; }
+            }
+            if (left == 0) { end = REC_SPENT; goto out; }
+            if (room - written < (size_t)k) { end = REC_PAPER_OUT; goto out; }
+            for (int i = 0; i < k; i++) output[written + (size_t)i] = (uint8_t)t[at + 2 + i];
+            written += (size_t)k; left--; at += 2 + k;
+            break;
+        }
+        default:
+            if (-x < 'a' || 'z' < -x) { end = REC_DAMAGED; goto out; }
+            {
+                int f = n < at + 3 ? 0 : target_of(t[at + 1], n), a = -x - 'a';
+                if (f == 0) { end = REC_DAMAGED; goto out; }
+                if (left == 0) { end = REC_SPENT; goto out; }
+                if (used[a] == 0) { end = REC_NO_TEXT; goto out; }
+                if (REC_CALLS <= depth) { end = REC_DEEP_CALLS; goto out; }
+                frames[depth].letter = letter; frames[depth].next = at + 2; frames[depth].exit = f;
+                depth++; letter = a; at = 2; left--;
+            }
+        }
+    }
+out:
+    memcpy(list, stack, sizeof stack);
+    if (end == REC_FINISHED) memcpy(kept, vars, sizeof vars);
+    *report = (rec_report){(size_t)truth, allowance - left, (size_t)height, taken, written};
+    return end;
+}
+
+static int32_t refusal(const rec_store *store, uint8_t letter, const int32_t *inputs, size_t count, size_t places) {
+    if (!plain_sound(store)) return REC_BAD_STORE;
+    if (letter < 'a' || 'z' < letter) return REC_NO_SUCH_LETTER;
+    if (store->used[letter - 'a'] == 0) return REC_NOT_STANDING;
+    for (size_t i = 0; i < count; i++)
+        if (outside(inputs[i])) return REC_BAD_INPUT;
+    return places == REC_LIST ? 0 : REC_BAD_LIST;
+}
+
+int32_t plain_run(rec_store *store, uint8_t letter, uint32_t allowance, const int32_t *inputs, size_t count, int32_t *list, size_t places,
+                  uint8_t *output, size_t room, rec_report *report) {
+    int32_t refused = refusal(store, letter, inputs, count, places);
+    if (refused != 0) {
+        *report = (rec_report){0};
+        return refused;
+    }
+    return obey(store->cells, store->used, store->vars, letter - 'a', allowance, inputs, count, list, output, room, report);
+}

@@ -1,0 +1,97 @@
+// Define and withdraw over a store whose arrays the caller lends: no copy of the store is made.
+ghost use mathlib.Core.Path.{_≡_};
+ghost use Prim.Native.Nat.{_<_};
+ghost use lib.ListN.{length};
+ghost use lib.Seq.{paste};
+ghost use Rattle.language.specs.Limits.{maxCells, maxLetters, storeCells};
+ghost use Rattle.book.specs.Calls.{defines, withdraws};
+ghost use Rattle.book.specs.Store.{storeOf, storeCall, told};
+ghost use Rattle.lent.specs.Lent.{Room, Puts};
+use language::LETTERS;
+use language::Refusal;
+use language::STORE_CELLS;
+use language::Table;
+use language::VARIABLES;
+
+// All cells are there: what the type of an array says, as a fact about its list. Nothing is done.
+fn all_there(cells: [i32; STORE_CELLS]) -> bool
+    ensures { λ _. ⌜ length cells ≡ storeCells ⌝ }
+{
+    true
+}
+
+// A table is copied into the cells from `base` on.
+fn copy_table(cells: &mut [i32; STORE_CELLS], base: usize, table: &[i32; Table::CELLS])
+    requires { ⌜ Room (now cells) base (now table) ⌝ }
+    ensures { λ _. ⌜ now (cells .exit) ≡ paste (now (cells .entry)) base (now (table .entry)) maxCells ⌝ }
+{
+    let mut i: usize = 0;
+    while i < Table::CELLS {
+        cells[base + i] = table[i];
+        i += 1;
+    }
+}
+
+// The table of letter `k` is replaced, with its used-cell count.
+fn put(cells: &mut [i32; STORE_CELLS], used: &mut [usize; LETTERS], k: usize, table: Table)
+    requires { ⌜ k < maxLetters ⌝ }
+    ensures { λ _. ⌜ Puts (now (cells .entry)) (now (used .entry)) k table (now (cells .exit)) (now (used .exit)) ⌝ }
+{
+    let before = *cells;
+    all_there(before);
+    let from = table.cells;
+    copy_table(cells, k * Table::CELLS, &from);
+    used[k] = table.used;
+}
+
+// The letter's table becomes that of the text: 0, or the refusal's number.
+pub fn define(
+    cells: &mut [i32; STORE_CELLS],
+    used: &mut [usize; LETTERS],
+    vars: [i32; VARIABLES],
+    letter: u8,
+    text: &[u8],
+) -> u32
+    ensures { λ r. ⌜ told (storeOf (now (cells .exit)) (now (used .exit)) vars) r (defines letter (now (text .entry)))
+        ≡ storeCall (storeOf (now (cells .entry)) (now (used .entry)) vars) (defines letter (now (text .entry))) ⌝ }
+{
+    let counts = *used;
+    if !validation::sound_store(counts, vars) {
+        return Refusal::BadStore.number();
+    }
+    if !validation::is_letter(letter) {
+        return Refusal::NoSuchLetter.number();
+    }
+    let l = linker::link(text);
+    if l.number != 0 {
+        return l.number;
+    }
+    let table = l.table;
+    put(cells, used, (letter - b'a') as usize, table);
+    0
+}
+
+// The letter's text goes: 0, or the refusal's number.
+pub fn withdraw(
+    cells: &mut [i32; STORE_CELLS],
+    used: &mut [usize; LETTERS],
+    vars: [i32; VARIABLES],
+    letter: u8,
+) -> u32
+    ensures { λ r. ⌜ told (storeOf (now (cells .exit)) (now (used .exit)) vars) r (withdraws letter)
+        ≡ storeCall (storeOf (now (cells .entry)) (now (used .entry)) vars) (withdraws letter) ⌝ }
+{
+    let counts = *used;
+    if !validation::sound_store(counts, vars) {
+        return Refusal::BadStore.number();
+    }
+    if !validation::is_letter(letter) {
+        return Refusal::NoSuchLetter.number();
+    }
+    let k = (letter - b'a') as usize;
+    if counts[k] == 0 {
+        return Refusal::NotStanding.number();
+    }
+    put(cells, used, k, Table::fresh());
+    0
+}

@@ -1,0 +1,149 @@
+// The C library: every `extern "C"` function of the product. include/rec.h is its header; its inline functions take a store apart for those here.
+ghost use mathlib.Core.Path.{_≡_};
+ghost use Prim.Native.Nat.{min};
+ghost use lib.ListN.{length};
+ghost use lib.Seq.{paste};
+ghost use Rattle.language.specs.Limits.{maxCells};
+ghost use Rattle.language.specs.Reading.{read};
+ghost use Rattle.linker.specs.Linked.{linked};
+ghost use Rattle.book.specs.Calls.{defines, withdraws, running};
+ghost use Rattle.book.specs.Store.{storeOf, freshStore, storeCall, told};
+ghost use Rattle.rec.specs.Doors.{truthFigure, opens, opened, hands, handed, Copies};
+use language::LETTERS;
+use language::STORE_CELLS;
+use language::Table;
+use language::VARIABLES;
+
+// The figures of a run beside its number.
+const FIGURES: usize = 5;
+
+// ── a store of lent arrays ──────────────────────────────────────────────────────────────────────
+
+// Every letter cleared, every variable 0, whatever the arrays held.
+#[no_mangle]
+pub extern "C" fn rec_lent_fresh(
+    cells: &mut [i32; STORE_CELLS],
+    used: &mut [usize; LETTERS],
+    vars: &mut [i32; VARIABLES],
+)
+    ensures { λ _. ⌜ storeOf (now (cells .exit)) (now (used .exit)) (now (vars .exit)) ≡ freshStore ⌝ }
+{
+    *cells = [0i32; STORE_CELLS];
+    *used = [0usize; LETTERS];
+    *vars = [0i32; VARIABLES];
+}
+
+// The letter's table becomes that of the text: 0, or the refusal's number.
+#[no_mangle]
+pub extern "C" fn rec_lent_define(
+    cells: &mut [i32; STORE_CELLS],
+    used: &mut [usize; LETTERS],
+    vars: &[i32; VARIABLES],
+    letter: u8,
+    text: &[u8],
+) -> u32
+    ensures { λ r. ⌜ told (storeOf (now (cells .exit)) (now (used .exit)) (now (vars .entry))) r (defines letter (now (text .entry)))
+        ≡ storeCall (storeOf (now (cells .entry)) (now (used .entry)) (now (vars .entry))) (defines letter (now (text .entry))) ⌝ }
+{
+    let values = *vars;
+    lent::define(cells, used, values, letter, text)
+}
+
+// The letter's text goes: 0, or the refusal's number.
+#[no_mangle]
+pub extern "C" fn rec_lent_withdraw(
+    cells: &mut [i32; STORE_CELLS],
+    used: &mut [usize; LETTERS],
+    vars: &[i32; VARIABLES],
+    letter: u8,
+) -> u32
+    ensures { λ r. ⌜ told (storeOf (now (cells .exit)) (now (used .exit)) (now (vars .entry))) r (withdraws letter)
+        ≡ storeCall (storeOf (now (cells .entry)) (now (used .entry)) (now (vars .entry))) (withdraws letter) ⌝ }
+{
+    let values = *vars;
+    lent::withdraw(cells, used, values, letter)
+}
+
+fn truth_figure(t: bool) -> usize
+    ensures { λ r. ⌜ r ≡ truthFigure t ⌝ }
+{
+    if t { 1 } else { 0 }
+}
+
+// The answer's number. The variables, the list and the output are left as the run leaves them; the figures are truth, steps, list height, inputs
+// taken and output length.
+#[no_mangle]
+pub extern "C" fn rec_lent_run(
+    cells: &[i32; STORE_CELLS],
+    used: &[usize; LETTERS],
+    vars: &mut [i32; VARIABLES],
+    letter: u8,
+    allowance: u32,
+    inputs: &[i32],
+    list: &mut [i32],
+    output: &mut [u8],
+    figures: &mut [usize; FIGURES],
+) -> u32
+    ensures { λ r. ⌜ opens r (now (vars .exit)) (now (list .exit)) (now (output .exit)) (now (figures .exit))
+        ≡ opened (storeCall (storeOf (now (cells .entry)) (now (used .entry)) (now (vars .entry)))
+        (running letter allowance (now (inputs .entry)) (now (list .entry)) (now (output .entry)))) ⌝ }
+{
+    let counts = *used;
+    let report = runner::run(cells, counts, vars, letter, allowance, inputs, list, output);
+    *figures = [
+        truth_figure(report.truth),
+        report.steps as usize,
+        report.height,
+        report.taken,
+        report.written,
+    ];
+    report.number
+}
+
+// ── a text alone ────────────────────────────────────────────────────────────────────────────────
+
+// 0, or the number of the refusal.
+#[no_mangle]
+pub extern "C" fn rec_check(text: &[u8]) -> u32
+    ensures { λ r. ⌜ r ≡ linked (read (now (text .entry))) .number ⌝ }
+{
+    let checked = linker::link(text);
+    checked.number
+}
+
+// The first n cells of a table in the first n of the lent places.
+fn copy_cells(table: &[i32; Table::CELLS], places: &mut [i32], n: usize)
+    requires { ⌜ Copies (now table) (now places) n ⌝ }
+    ensures { λ _. ⌜ now (places .exit) ≡ paste (now (places .entry)) 0 (now (table .entry)) n ⌝ }
+{
+    let mut i: usize = 0;
+    while i < n {
+        places[i] = table[i];
+        i += 1;
+    }
+}
+
+// n, and at most the cells of a table.
+fn at_most(n: usize) -> usize
+    ensures { λ r. ⌜ r ≡ min maxCells n ⌝ }
+{
+    if Table::CELLS < n { Table::CELLS } else { n }
+}
+
+// The same number. An accepted text gives its used-cell count, and its table's cells in the places that are lent, up to 250 of them; the other places
+// stay as they were. A refused one gives a count of 0, and every place stays.
+#[no_mangle]
+pub extern "C" fn rec_link(text: &[u8], cells: &mut [i32], used: &mut usize) -> u32
+    ensures { λ r. ⌜ hands r (now (used .exit)) (now (cells .exit)) ≡ handed (now (cells .entry)) (read (now (text .entry))) ⌝ }
+{
+    let l = linker::link(text);
+    let t = l.table;
+    *used = t.used;
+    if l.number != 0 {
+        return l.number;
+    }
+    let table = t.cells;
+    let n = at_most(cells.len());
+    copy_cells(&table, cells, n);
+    0
+}

@@ -1,0 +1,103 @@
+#include "engine.h"
+
+#include <stdio.h>
+#include <string.h>
+
+#include "../../include/rec.h"
+
+/* ---- a store between places that must stay ------------------------------ */
+
+enum { BESIDE = 64, MARK = 0x5a };
+
+static struct {
+    uint8_t before[BESIDE];
+    rec_store store;
+    uint8_t between[BESIDE];
+    rec_report report;
+    uint8_t behind[BESIDE];
+} lent;
+
+static bool stayed(const uint8_t *places)
+{
+    for (size_t i = 0; i < BESIDE; i++)
+        if (places[i] != MARK)
+            return false;
+    return true;
+}
+
+/* the reference keeps variable 0 last, the engine first */
+static void put(const int32_t *cells, const size_t *used, const int32_t *variables)
+{
+    memset(&lent, MARK, sizeof lent);
+    memcpy(lent.store.cells, cells, sizeof lent.store.cells);
+    memcpy(lent.store.used, used, sizeof lent.store.used);
+    for (size_t i = 0; i < REC_VARIABLES; i++)
+        lent.store.vars[(i + 1) % REC_VARIABLES] = variables[i];
+}
+
+static bool get(int32_t *cells, size_t *used, int32_t *variables)
+{
+    memcpy(cells, lent.store.cells, sizeof lent.store.cells);
+    memcpy(used, lent.store.used, sizeof lent.store.used);
+    for (size_t i = 0; i < REC_VARIABLES; i++)
+        variables[i] = lent.store.vars[(i + 1) % REC_VARIABLES];
+    if (stayed(lent.before) && stayed(lent.between) && stayed(lent.behind))
+        return true;
+    puts("  written beside the store or the report");
+    return false;
+}
+
+/* ---- calls --------------------------------------------------------------- */
+
+/* Where nothing is lent the pointer is null, which the header allows. */
+#define LENT(pointer, length) ((length) == 0 ? NULL : (pointer))
+
+static int32_t run(const struct call *call, struct side *side)
+{
+    rec_report *report = &lent.report;
+    int32_t number =
+        rec_run(&lent.store, call->letter, call->allowance, LENT(call->input, call->input_length),
+                call->input_length, LENT(side->list, call->list_length), call->list_length,
+                LENT(side->output, call->output_length), call->output_length, report);
+    side->figures[0] = report->truth;
+    side->figures[1] = report->steps;
+    side->figures[2] = report->height;
+    side->figures[3] = report->taken;
+    side->figures[4] = report->written;
+    return number;
+}
+
+bool engine_fresh(int32_t *cells, size_t *used, int32_t *variables)
+{
+    put(cells, used, variables);
+    rec_fresh(&lent.store);
+    return get(cells, used, variables);
+}
+
+bool engine_call(int32_t *cells, size_t *used, int32_t *variables, const struct call *call,
+                 struct side *side)
+{
+    const struct text *text = &call->text;
+    put(cells, used, variables);
+    side->number = (uint32_t)(
+        call->kind == DEFINE ? rec_define(&lent.store, call->letter,
+                                          LENT(text->bytes, text->length), text->length)
+        : call->kind == WITHDRAW ? rec_withdraw(&lent.store, call->letter)
+                                 : run(call, side));
+    return get(cells, used, variables);
+}
+
+int32_t engine_check(const uint8_t *text, size_t length)
+{
+    return rec_check(text, length);
+}
+
+int32_t engine_link(const uint8_t *text, size_t length, int32_t *cells, size_t room, size_t *used)
+{
+    return rec_link(text, length, cells, room, used);
+}
+
+const char *engine_word(int32_t number)
+{
+    return rec_word(number);
+}

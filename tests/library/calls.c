@@ -1,0 +1,231 @@
+/* Calls through rec.h: that each function of the header hands on what it is passed, nulls with length 0, and that a refused call changes nothing. */
+#include <rec.h>
+#include <string.h>
+#include "holds.h"
+
+enum { PAPER = 40, MARK = 0x55, ALLOWANCE = 1000 };
+
+/* What a call may write, with a guard on either side. */
+static struct {
+    uint64_t guard_a;
+    rec_store store;
+    uint64_t guard_b;
+    int32_t list[REC_LIST];
+    uint64_t guard_c;
+    uint8_t paper[PAPER];
+    uint64_t guard_d;
+    rec_report report;
+    uint64_t guard_e;
+} lent;
+
+static const uint64_t guard = 0x5a5aa5a53c3cc3c3;
+
+static void set_guards(void) { lent.guard_a = lent.guard_b = lent.guard_c = lent.guard_d = lent.guard_e = guard; }
+
+static int guarded(void) {
+    return lent.guard_a == guard && lent.guard_b == guard && lent.guard_c == guard && lent.guard_d == guard && lent.guard_e == guard;
+}
+
+static int32_t define(char letter, const char *text) { return rec_define(&lent.store, (uint8_t)letter, (const uint8_t *)text, strlen(text)); }
+
+/* A run with the list and the paper full of marks. */
+static int32_t run_for(char letter, uint32_t allowance, const int32_t *inputs, size_t count) {
+    memset(lent.list, MARK, sizeof lent.list);
+    memset(lent.paper, MARK, sizeof lent.paper);
+    memset(&lent.report, MARK, sizeof lent.report);
+    return rec_run(&lent.store, (uint8_t)letter, allowance, inputs, count, lent.list, REC_LIST, lent.paper, PAPER, &lent.report);
+}
+
+static int32_t run(char letter, const int32_t *inputs, size_t count) { return run_for(letter, ALLOWANCE, inputs, count); }
+
+static int figures(size_t truth, size_t steps, size_t height, size_t taken, size_t written) {
+    rec_report r = lent.report;
+    return r.truth == truth && r.steps == steps && r.height == height && r.taken == taken && r.written == written;
+}
+
+static int all_bytes(const void *at, size_t length, int byte) {
+    const uint8_t *bytes = (const uint8_t *)at;
+    for (size_t i = 0; i < length; i++)
+        if (bytes[i] != byte) return 0;
+    return 1;
+}
+
+/* ---- a store ---- */
+
+static void fresh(void) {
+    memset(&lent.store, MARK, sizeof lent.store);
+    rec_fresh(&lent.store);
+    HOLDS(all_bytes(&lent.store, sizeof lent.store, 0));
+}
+
+/* Each letter's cells, count and variable stand where the header says. */
+static void places_of_a_store(void) {
+    static const int32_t table[] = {2000, -78, 5, 6, 0, 1};
+    fresh();
+    for (size_t k = 0; k < REC_LETTERS; k++) {
+        const int32_t *cells = lent.store.cells + k * REC_CELLS;
+        HOLDS(define((char)('a' + k), "(N;)") == REC_FINISHED);
+        HOLDS(lent.store.used[k] == 6);
+        HOLDS(memcmp(cells, table, sizeof table) == 0);
+        HOLDS(all_bytes(cells + 6, (REC_LETTERS - k) * REC_CELLS * sizeof *cells - sizeof table, 0));
+        HOLDS(k == REC_LETTERS - 1 || lent.store.used[k + 1] == 0);
+    }
+    HOLDS(rec_withdraw(&lent.store, 'b') == REC_FINISHED);
+    HOLDS(lent.store.used[0] == 6 && lent.store.used[1] == 0 && lent.store.used[2] == 6);
+    HOLDS(all_bytes(lent.store.cells + REC_CELLS, REC_CELLS * sizeof(int32_t), 0));
+    for (int k = 0; k < REC_VARIABLES; k++) {
+        char text[] = "('/9'S0;)";
+        text[3] = (char)('1' + k % 9);
+        text[6] = (char)('0' + k);
+        HOLDS(define('q', text) == REC_FINISHED);
+        HOLDS(run('q', NULL, 0) == REC_FINISHED);
+        HOLDS(lent.store.vars[k] == 1 + k % 9);
+        HOLDS(k == REC_VARIABLES - 1 || lent.store.vars[k + 1] == 0);
+    }
+}
+
+/* ---- runs ---- */
+
+/* Five figures, no two of them equal. */
+static void figures_of_a_run(void) {
+    const int32_t inputs[] = {10, -20, 30, -40};
+    fresh();
+    HOLDS(define('q', "(''HELLO'IIIIL;)") == REC_FINISHED);
+    HOLDS(run('q', inputs, 4) == REC_FINISHED);
+    HOLDS(figures(1, 7, 3, 4, 5));
+    HOLDS(lent.list[0] == 10 && lent.list[1] == -20 && lent.list[2] == 30);
+    HOLDS(all_bytes(lent.list + 3, sizeof lent.list - 3 * sizeof lent.list[0], 0));
+    HOLDS(memcmp(lent.paper, "HELLO", 5) == 0);
+    HOLDS(all_bytes(lent.paper + 5, PAPER - 5, MARK));
+}
+
+/* As many inputs, bytes of output and steps as are needed, and one fewer. */
+static void just_enough(void) {
+    const int32_t inputs[] = {10, -20, 30, -40};
+    fresh();
+    HOLDS(define('q', "(''HELLO'IIIIL;)") == REC_FINISHED);
+    HOLDS(rec_run(&lent.store, 'q', 7, inputs, 4, lent.list, REC_LIST, lent.paper, 5, &lent.report) == REC_FINISHED && figures(1, 7, 3, 4, 5));
+    HOLDS(rec_run(&lent.store, 'q', 6, inputs, 4, lent.list, REC_LIST, lent.paper, 5, &lent.report) == REC_SPENT && figures(0, 6, 3, 4, 5));
+    HOLDS(rec_run(&lent.store, 'q', 7, inputs, 3, lent.list, REC_LIST, lent.paper, 5, &lent.report) == REC_NO_INPUT && figures(0, 4, 3, 3, 5));
+    HOLDS(rec_run(&lent.store, 'q', 7, inputs, 4, lent.list, REC_LIST, lent.paper, 4, &lent.report) == REC_PAPER_OUT && figures(0, 0, 0, 0, 0));
+}
+
+static void ends_of_a_run(void) {
+    const int32_t inputs[] = {500, 340};
+    fresh();
+    HOLDS(define('p', "(I (N) (0) I * '/100' / S1 ''PAY' O ; ''NO PAY' )") == REC_FINISHED);
+    HOLDS(run('p', inputs, 2) == REC_FINISHED && figures(1, 11, 1, 2, 15) && lent.store.vars[1] == 1700);
+    lent.store.vars[1] = 7;
+    HOLDS(run_for('p', 10, inputs, 2) == REC_SPENT && figures(0, 10, 1, 2, 15) && lent.store.vars[1] == 7);
+    HOLDS(run_for('p', 0, inputs, 2) == REC_SPENT && figures(0, 0, 0, 0, 0));
+    HOLDS(run('p', inputs, 1) == REC_NO_INPUT && figures(0, 3, 1, 1, 0));
+    HOLDS(define('l', "(:)") == REC_FINISHED);
+    HOLDS(run_for('l', 4000000, NULL, 0) == REC_SPENT && figures(0, 4000000, 0, 0, 0));
+    HOLDS(define('a', "(p;)") == REC_FINISHED && rec_withdraw(&lent.store, 'p') == REC_FINISHED);
+    HOLDS(run('a', inputs, 2) == REC_NO_TEXT && figures(0, 0, 0, 0, 0));
+    HOLDS(run('p', inputs, 2) == REC_NOT_STANDING);
+}
+
+/* ---- null with length 0 ---- */
+
+static void nulls(void) {
+    size_t used = 99;
+    fresh();
+    HOLDS(rec_check(NULL, 0) == REC_UNFINISHED);
+    HOLDS(rec_link(NULL, 0, NULL, 0, &used) == REC_UNFINISHED && used == 0);
+    HOLDS(rec_link((const uint8_t *)"()", 2, NULL, 0, &used) == REC_FINISHED && used == 3);
+    HOLDS(rec_define(&lent.store, 'q', NULL, 0) == REC_UNFINISHED);
+    HOLDS(define('q', "(;)") == REC_FINISHED);
+    HOLDS(define('o', "(''A';)") == REC_FINISHED);
+    HOLDS(rec_run(&lent.store, 'q', ALLOWANCE, NULL, 0, lent.list, REC_LIST, NULL, 0, &lent.report) == REC_FINISHED && figures(1, 1, 0, 0, 0));
+    HOLDS(rec_run(&lent.store, 'o', ALLOWANCE, NULL, 0, lent.list, REC_LIST, NULL, 0, &lent.report) == REC_PAPER_OUT && figures(0, 0, 0, 0, 0));
+    HOLDS(rec_run(&lent.store, 'q', ALLOWANCE, NULL, 0, NULL, 0, NULL, 0, &lent.report) == REC_BAD_LIST && figures(0, 0, 0, 0, 0));
+}
+
+/* ---- refusals: the number, and nothing changed ---- */
+
+static rec_store before;
+
+static int refused_define(int32_t number, char letter, const char *text) {
+    before = lent.store;
+    return define(letter, text) == number && memcmp(&before, &lent.store, sizeof before) == 0;
+}
+
+static int refused_withdraw(int32_t number, char letter) {
+    before = lent.store;
+    return rec_withdraw(&lent.store, (uint8_t)letter) == number && memcmp(&before, &lent.store, sizeof before) == 0;
+}
+
+static int refused_run(int32_t number, char letter, int32_t input, size_t places) {
+    before = lent.store;
+    memset(lent.list, MARK, sizeof lent.list);
+    memset(lent.paper, MARK, sizeof lent.paper);
+    memset(&lent.report, MARK, sizeof lent.report);
+    return rec_run(&lent.store, (uint8_t)letter, ALLOWANCE, &input, 1, lent.list, places, lent.paper, PAPER, &lent.report) == number &&
+           figures(0, 0, 0, 0, 0) && memcmp(&before, &lent.store, sizeof before) == 0 && all_bytes(lent.list, sizeof lent.list, MARK) &&
+           all_bytes(lent.paper, sizeof lent.paper, MARK);
+}
+
+/* Every refusal alone, and where several fit the first in document 01's order. */
+static void refusals(void) {
+    static char longer[258];
+    memset(longer, 'B', 257);
+    fresh();
+    HOLDS(define('q', "(I ''x' O S1 ;)") == REC_FINISHED);
+    HOLDS(refused_define(REC_NO_SUCH_LETTER, 'Q', longer));
+    HOLDS(refused_define(REC_NO_SUCH_LETTER, 'a' - 1, "()"));
+    HOLDS(refused_define(REC_NO_SUCH_LETTER, 'z' + 1, "()"));
+    HOLDS(refused_define(REC_LONG_TEXT, 'q', longer));
+    HOLDS(refused_define(REC_STRAY_MARK, 'q', longer + 1));
+    HOLDS(refused_define(REC_DEEP, 'q', "((((((((((("));
+    HOLDS(refused_define(REC_BAD_COUNTER, 'q', "($0$"));
+    HOLDS(refused_define(REC_BAD_CONSTANT, 'q', "('/x"));
+    HOLDS(refused_define(REC_UNFINISHED, 'q', "("));
+    HOLDS(refused_withdraw(REC_NO_SUCH_LETTER, 'Q'));
+    HOLDS(refused_withdraw(REC_NOT_STANDING, 'a'));
+    HOLDS(refused_run(REC_NO_SUCH_LETTER, 'Q', REC_VALUE_MAX + 1, 0));
+    HOLDS(refused_run(REC_NOT_STANDING, 'a', REC_VALUE_MAX + 1, 0));
+    HOLDS(refused_run(REC_BAD_INPUT, 'q', REC_VALUE_MAX + 1, 0));
+    HOLDS(refused_run(REC_BAD_INPUT, 'q', -REC_VALUE_MAX - 1, REC_LIST));
+    HOLDS(refused_run(REC_BAD_LIST, 'q', REC_VALUE_MAX, REC_LIST - 1));
+    HOLDS(run('q', &(int32_t){-REC_VALUE_MAX}, 1) == REC_FINISHED && lent.store.vars[1] == -REC_VALUE_MAX);
+    lent.store.vars[9] = -REC_VALUE_MAX - 1;
+    HOLDS(refused_define(REC_BAD_STORE, 'Q', longer));
+    HOLDS(refused_withdraw(REC_BAD_STORE, 'Q'));
+    HOLDS(refused_run(REC_BAD_STORE, 'Q', 0, 0));
+    lent.store.vars[9] = 0;
+    lent.store.used[25] = 2;
+    HOLDS(refused_withdraw(REC_BAD_STORE, 'q'));
+    lent.store.used[25] = 4;
+    HOLDS(run('z', NULL, 0) == REC_DAMAGED && figures(0, 0, 0, 0, 0));
+}
+
+/* ---- a text alone ---- */
+
+static void links(void) {
+    static int32_t cells[REC_CELLS + 10];
+    size_t used = 99;
+    const uint8_t *text = (const uint8_t *)"(N;)";
+    memset(cells, MARK, sizeof cells);
+    HOLDS(rec_link(text, 3, cells, REC_CELLS + 10, &used) == REC_UNFINISHED && used == 0);
+    HOLDS(all_bytes(cells, sizeof cells, MARK));
+    HOLDS(rec_link(text, 4, cells, 2, &used) == REC_FINISHED && used == 6);
+    HOLDS(cells[0] == 2000 && cells[1] == -78 && all_bytes(cells + 2, sizeof cells - 2 * sizeof *cells, MARK));
+    HOLDS(rec_link(text, 4, cells, REC_CELLS + 10, &used) == REC_FINISHED && used == 6);
+    HOLDS(cells[5] == 1 && all_bytes(cells + 6, (REC_CELLS - 6) * sizeof *cells, 0) && all_bytes(cells + REC_CELLS, 10 * sizeof *cells, MARK));
+    HOLDS(rec_check(text, 4) == REC_FINISHED && rec_check(text, 3) == REC_UNFINISHED);
+}
+
+int main(void) {
+    set_guards();
+    places_of_a_store();
+    figures_of_a_run();
+    just_enough();
+    ends_of_a_run();
+    nulls();
+    refusals();
+    links();
+    HOLDS(guarded());
+    printf("%d\n", claims);
+    return broken > 0;
+}

@@ -1,0 +1,272 @@
+/* What each function of librec.a needs of the stack, in bytes: how deep it writes
+ * into the stack of a thread, less what an empty function writes there. The most of
+ * all its cases. Prints a line `rec_run 7104` for each function.
+ *
+ * Built with differential/texts.c and librec.a. */
+#define _DEFAULT_SOURCE /* mmap's MAP_ANONYMOUS */
+#include <pthread.h>
+#include <stdint.h>
+#include <stdio.h>
+#include <stdlib.h>
+#include <string.h>
+#include <sys/mman.h>
+
+#include "../include/rec.h"
+#include "differential/texts.h"
+
+enum { STACK = 1 << 18, PAPER = 4096, RANDOM_TEXTS = 300 };
+
+static void fail(const char *what)
+{
+    fprintf(stderr, "stack: %s\n", what);
+    exit(2);
+}
+
+/* ---- one measurement ---------------------------------------------------- */
+
+static uint8_t *stack;
+
+struct trial {
+    void (*call)(void);
+    uint8_t pattern;
+    size_t depth;
+};
+
+/* An address just below the frame of the caller. */
+__attribute__((noinline)) static uintptr_t below_here(void)
+{
+    volatile char here = 0;
+    return (uintptr_t)&here;
+}
+
+/* The pattern from the stack's end to here, the call, and how far it was overwritten. */
+static void *measure(void *it)
+{
+    struct trial *t = it;
+    size_t room = below_here() - (uintptr_t)stack, left = 0;
+    memset(stack, t->pattern, room);
+    t->call();
+    while (left < room && stack[left] == t->pattern)
+        left++;
+    t->depth = room - left;
+    return NULL;
+}
+
+static size_t depth_of(void (*call)(void), uint8_t pattern)
+{
+    struct trial trial = {call, pattern, 0};
+    pthread_attr_t attributes;
+    pthread_t thread;
+    if (pthread_attr_init(&attributes) != 0 || pthread_attr_setstack(&attributes, stack, STACK) != 0
+        || pthread_create(&thread, &attributes, measure, &trial) != 0
+        || pthread_join(thread, NULL) != 0)
+        fail("no thread");
+    pthread_attr_destroy(&attributes);
+    return trial.depth;
+}
+
+/* ---- the functions ------------------------------------------------------ */
+
+static rec_store store;
+static struct text text;
+static uint8_t letter = 'q';
+static uint32_t allowance = 100000;
+static int32_t inputs[REC_LIST], list[REC_LIST];
+static size_t places = REC_LIST;
+static uint8_t output[PAPER];
+static int32_t number; /* of the last call */
+static rec_report report;
+
+static void fresh(void) { rec_fresh(&store); }
+static void check(void) { number = rec_check(text.bytes, text.length); }
+static void define(void) { number = rec_define(&store, letter, text.bytes, text.length); }
+static void withdraw(void) { number = rec_withdraw(&store, letter); }
+
+static void link_text(void)
+{
+    static int32_t cells[REC_CELLS];
+    static size_t used;
+    number = rec_link(text.bytes, text.length, cells, REC_CELLS, &used);
+}
+
+static void run(void)
+{
+    number = rec_run(&store, letter, allowance, inputs, REC_LIST, list, places, output, PAPER, &report);
+}
+
+static void nothing(void) {}
+
+/* A byte that is written may be the pattern's, so there are two patterns. */
+static size_t need_of(void (*call)(void))
+{
+    static rec_store before;
+    size_t need = 0;
+    before = store;
+    for (int i = 0; i < 2; i++) {
+        uint8_t pattern = i ? 0x5a : 0xa5;
+        size_t empty = depth_of(nothing, pattern), depth;
+        store = before;
+        depth = depth_of(call, pattern);
+        if (depth > empty && depth - empty > need)
+            need = depth - empty;
+    }
+    return need;
+}
+
+static struct function {
+    const char *name;
+    void (*call)(void);
+    size_t need;
+} functions[] = {{"rec_fresh", fresh, 0},   {"rec_check", check, 0},       {"rec_link", link_text, 0},
+                 {"rec_define", define, 0}, {"rec_withdraw", withdraw, 0}, {"rec_run", run, 0}};
+enum { FUNCTIONS = sizeof functions / sizeof functions[0] };
+
+static void try(void (*call)(void))
+{
+    for (size_t i = 0; i < FUNCTIONS; i++)
+        if (functions[i].call == call) {
+            size_t need = need_of(call);
+            if (need > functions[i].need)
+                functions[i].need = need;
+        }
+}
+
+/* The call, which must give this number: else the case is not the one that is meant. */
+static void expect(void (*call)(void), int32_t expected)
+{
+    try(call);
+    if (number != expected) {
+        fprintf(stderr, "stack: a case gives %ld, not %ld\n", (long)number, (long)expected);
+        exit(2);
+    }
+}
+
+/* ---- the cases ----------------------------------------------------------- */
+
+static void text_of(const char *words, const char *filling, size_t times, const char *end)
+{
+    text_clear(&text);
+    text_add(&text, words);
+    text_fill(&text, filling, times);
+    text_add(&text, end);
+}
+
+/* What reads a text: short, nested, prints, refused at the end, long. */
+static void known_texts(void)
+{
+    static const struct {
+        int32_t number;
+        const char *words, *filling;
+        size_t times;
+        const char *end;
+    } cases[] = {{0, "(", "", 0, ")"},
+                 {0, "((((((((((", "", 0, "))))))))))"},
+                 {0, "(((((((((", "(N:;)", 47, ")))))))))"},
+                 {0, "(", "''abcdefghijklmnopqrstuvwxyz'", 8, ")"},
+                 {0, "(", "N", 123, ")"},
+                 {0, "(", "$9999$", 16, "'/-999999999'F0S1\"end\")"},
+                 {REC_LONG_TEXT, "(", " ", 4000, ")"},
+                 {REC_STRAY_MARK, "(", "N", 120, ")#"},
+                 {REC_DEEP, "((((((((((", "N", 100, "("},
+                 {REC_BAD_COUNTER, "(", "N", 120, "$0$)"},
+                 {REC_BAD_CONSTANT, "(", "N", 120, "'/1234567890')"},
+                 {REC_UNFINISHED, "(((((((((", "(N:;)", 47, "))))))))"},
+                 {REC_TABLE_FULL, "(", "N", 124, ")"},
+                 {REC_MANY_COUNTERS, "(", "$1$", 17, ")"}};
+    static void (*const readers[])(void) = {check, link_text, define};
+    for (size_t i = 0; i < sizeof cases / sizeof cases[0]; i++)
+        for (size_t j = 0; j < 3; j++) {
+            text_of(cases[i].words, cases[i].filling, cases[i].times, cases[i].end);
+            rec_fresh(&store);
+            expect(readers[j], cases[i].number);
+        }
+}
+
+/* Random texts of every kind through every function. */
+static void random_texts(void)
+{
+    struct random r;
+    random_seed(&r, 1);
+    rec_fresh(&store);
+    for (int i = 0; i < RANDOM_TEXTS; i++) {
+        text_hard(&r, (const uint8_t *)"abcdef", 6, &text);
+        letter = (uint8_t)('a' + below(&r, 6));
+        for (size_t j = 1; j < FUNCTIONS; j++)
+            if (functions[j].call != withdraw || chance(&r, 20))
+                try(functions[j].call);
+    }
+}
+
+static void refusals(void)
+{
+    text_of("(", "", 0, ")");
+    letter = 'Q';
+    expect(define, REC_NO_SUCH_LETTER);
+    expect(withdraw, REC_NO_SUCH_LETTER);
+    expect(run, REC_NO_SUCH_LETTER);
+    letter = 'q';
+    rec_fresh(&store);
+    expect(withdraw, REC_NOT_STANDING);
+    expect(run, REC_NOT_STANDING);
+    expect(define, 0);
+    inputs[REC_LIST - 1] = REC_VALUE_MAX + 1;
+    expect(run, REC_BAD_INPUT);
+    inputs[REC_LIST - 1] = 0;
+    places = REC_LIST - 1;
+    expect(run, REC_BAD_LIST);
+    places = REC_LIST;
+    store.used[25] = 2;
+    expect(define, REC_BAD_STORE);
+    expect(withdraw, REC_BAD_STORE);
+    expect(run, REC_BAD_STORE);
+    store.used[25] = 0;
+    expect(withdraw, 0);
+}
+
+static void define_as(uint8_t under, const char *words)
+{
+    letter = under;
+    text_of(words, "", 0, "");
+    expect(define, 0);
+}
+
+/* A full list, 100 calls within calls, prints and `O`. */
+static void deep_run(void)
+{
+    rec_fresh(&store);
+    define_as('f', "($63$P:''full 'OXg;)");
+    define_as('g', "(''deeper 'Og;)");
+    define_as('m', "(I'/-999999999'*If;)");
+    inputs[0] = 1;
+    expect(run, REC_LIST_FULL);
+    define_as('m', "('/-999999999'f;)");
+    expect(run, REC_DEEP_CALLS);
+    if (report.height != REC_LIST || report.written != 18 + 99 * 19)
+        fail("the deep run is not full");
+}
+
+/* A table that is no text's: every clause of 29 ends a run in the same way. */
+static void damaged_run(void)
+{
+    letter = 'q';
+    rec_fresh(&store);
+    store.used['q' - 'a'] = 5;
+    expect(run, REC_DAMAGED);
+}
+
+int main(void)
+{
+    stack = mmap(NULL, STACK, PROT_READ | PROT_WRITE, MAP_PRIVATE | MAP_ANONYMOUS, -1, 0);
+    if (stack == MAP_FAILED)
+        fail("no memory");
+    memset(&store, 0xff, sizeof store);
+    try(fresh);
+    known_texts();
+    refusals();
+    deep_run();
+    damaged_run();
+    random_texts();
+    for (size_t i = 0; i < FUNCTIONS; i++)
+        printf("%s %zu\n", functions[i].name, functions[i].need);
+    return 0;
+}
