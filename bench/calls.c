@@ -4,62 +4,21 @@
  */
 #define _POSIX_C_SOURCE 199309L
 #include "measure.h"
-#include "plain_linker.h"
-#include "plain_runner.h"
+#include "sides.h"
 #include <stdio.h>
-#include <string.h>
 
-enum { PAPER = 4096, ROUNDS = 15 };
-
-/* ---- plain C ---- */
-
-static void plain_fresh(rec_store *store) { memset(store, 0, sizeof *store); }
-
-static int32_t plain_define(rec_store *store, uint8_t letter, const uint8_t *text, size_t length) {
-    size_t used;
-    if (!plain_sound(store)) return REC_BAD_STORE;
-    if (letter < 'a' || 'z' < letter) return REC_NO_SUCH_LETTER;
-    int32_t number = plain_link(text, length, store->cells + (letter - 'a') * REC_CELLS, REC_CELLS, &used);
-    if (number == 0) store->used[letter - 'a'] = used;
-    return number;
-}
-
-static int32_t plain_withdraw(rec_store *store, uint8_t letter) {
-    if (!plain_sound(store)) return REC_BAD_STORE;
-    if (letter < 'a' || 'z' < letter) return REC_NO_SUCH_LETTER;
-    if (store->used[letter - 'a'] == 0) return REC_NOT_STANDING;
-    memset(store->cells + (letter - 'a') * REC_CELLS, 0, REC_CELLS * sizeof *store->cells);
-    store->used[letter - 'a'] = 0;
-    return 0;
-}
+enum { ROUNDS = 15 };
 
 /* ---- the calls that are measured ---- */
 
-struct side {
-    void (*fresh)(rec_store *);
-    int32_t (*define)(rec_store *, uint8_t, const uint8_t *, size_t);
-    int32_t (*withdraw)(rec_store *, uint8_t);
-    int32_t (*run)(rec_store *, uint8_t, uint32_t, const int32_t *, size_t, int32_t *, size_t, uint8_t *, size_t, rec_report *);
-    rec_store store;
-    int32_t list[REC_LIST];
-    uint8_t output[PAPER];
-    rec_report report;
-};
-
-static struct side sides[2] = {{.fresh = rec_fresh, .define = rec_define, .withdraw = rec_withdraw, .run = rec_run},
-                               {.fresh = plain_fresh, .define = plain_define, .withdraw = plain_withdraw, .run = plain_run}};
-
 static int32_t define(struct side *s, uint8_t letter, const char *text) { return s->define(&s->store, letter, (const uint8_t *)text, strlen(text)); }
-
-static int32_t run(struct side *s, uint8_t letter, int32_t input) {
-    return s->run(&s->store, letter, 1000, &input, 1, s->list, REC_LIST, s->output, PAPER, &s->report);
-}
 
 static int32_t fresh(struct side *s) {
     s->fresh(&s->store);
     return 0;
 }
 
+/* Both over a text that stands. */
 static int32_t define_d(struct side *s) { return define(s, 'd', D_TEXT); }
 
 static int32_t define_till(struct side *s) { return define(s, 't', TILL_TEXT); }
@@ -70,15 +29,45 @@ static int32_t withdraw(struct side *s) {
     return s->withdraw(&s->store, 'w');
 }
 
-static int32_t run_short(struct side *s) { return run(s, 'q', 0); }
+static int32_t run_short(struct side *s) { return run(s, 'q', 1000, NULL, 0); }
 
-static int32_t run_print(struct side *s) { return run(s, 'p', 250); }
+static int32_t run_print(struct side *s) { return run(s, 'p', 1000, &(int32_t){250}, 1); }
 
 /* ---- the comparison ---- */
 
-static int same(void) {
-    return memcmp(&sides[0].store, &sides[1].store, sizeof(rec_store)) == 0 && memcmp(sides[0].list, sides[1].list, sizeof sides[0].list) == 0
-        && memcmp(sides[0].output, sides[1].output, PAPER) == 0 && memcmp(&sides[0].report, &sides[1].report, sizeof(rec_report)) == 0;
+/* both from a store in which the texts of the runs stand */
+static void begin(void) {
+    for (int who = 0; who < 2; who++) {
+        fresh(&sides[who]);
+        define(&sides[who], 'q', "('/5'N)");
+        define(&sides[who], 'p', "(IS1'/3'*''pays 'OXL;)");
+        define(&sides[who], 'w', TILL_TEXT);
+    }
+}
+
+/* 13, 1, 10, 11, 12 and a refused text: the same numbers, and nothing is changed */
+static int refused_alike(void) {
+    int good = 1;
+    for (int broken = 0; broken < 3; broken++)
+        for (const char *letter = "qQe"; *letter != 0; letter++) {
+            int32_t numbers[2][5];
+            begin();
+            for (int who = 0; who < 2; who++) {
+                struct side *s = &sides[who];
+                s->report.steps = 7;
+                if (broken == 1) s->store.used[25] = 2;
+                if (broken == 2) s->store.vars[9] = REC_VALUE_MAX + 1;
+                numbers[who][0] = define(s, (uint8_t)*letter, "(N");
+                numbers[who][1] = run(s, (uint8_t)*letter, 1000, &(int32_t){REC_VALUE_MAX + 1}, 1);
+                numbers[who][2] = s->run(&s->store, (uint8_t)*letter, 1000, NULL, 0, s->list, REC_LIST - 1, s->output, PAPER, &s->report);
+                numbers[who][3] = *letter == 'q' ? 1 : s->withdraw(&s->store, (uint8_t)*letter);
+                numbers[who][4] = *letter == 'q' ? 1 : run(s, (uint8_t)*letter, 1000, NULL, 0);
+            }
+            for (int i = 0; i < 5; i++) good &= numbers[0][i] == numbers[1][i] && numbers[0][i] != 0;
+            good &= same_sides();
+        }
+    if (!good) puts("DIFFERENT ANSWERS: refused calls");
+    return good;
 }
 
 typedef int32_t call(struct side *);
@@ -91,28 +80,24 @@ static double time_of(call *it, struct side *s, int times) {
     return numbers == 0 ? (seconds() - from) / times * 1e9 : -1;
 }
 
-/* both in turn, from a store in which the texts of the runs stand; the best of several rounds */
+/* both in turn; the best of several rounds */
 static int row(const char *name, call *it, int times) {
     double best[2] = {1e9, 1e9};
-    for (int who = 0; who < 2; who++) {
-        fresh(&sides[who]);
-        define(&sides[who], 'q', "('/5'N)");
-        define(&sides[who], 'p', "(IS1'/3'*''pays 'OXL;)");
-        define(&sides[who], 'w', TILL_TEXT);
-    }
+    begin();
     for (int round = 0; round < ROUNDS; round++)
         for (int who = 0; who < 2; who++) {
             double took = time_of(it, &sides[who], times);
             if (took < best[who]) best[who] = took;
         }
-    int good = best[0] >= 0 && best[1] >= 0 && same();
+    int good = best[0] >= 0 && best[1] >= 0 && same_sides();
     if (!good) printf("DIFFERENT ANSWERS: %s\n", name);
     printf("%-26s a call  proved %7.1f ns  plain %7.1f ns  ratio %.2f\n", name, best[0], best[1], best[0] / best[1]);
     return !good;
 }
 
 int main(void) {
-    int bad = row("define d", define_d, 100000);
+    int bad = !refused_alike();
+    bad |= row("define d", define_d, 100000);
     bad |= row("define a till's text", define_till, 50000);
     bad |= row("withdraw", withdraw, 200000);
     bad |= row("fresh", fresh, 20000);

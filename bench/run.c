@@ -2,29 +2,13 @@
    holds each row to 1.3 times plain C. */
 #define _POSIX_C_SOURCE 199309L
 #include "measure.h"
-#include "plain_runner.h"
+#include "sides.h"
 #include <stdio.h>
-#include <string.h>
-
-enum { PAPER = 4096 };
-
-typedef int32_t runner(rec_store *, uint8_t, uint32_t, const int32_t *, size_t, int32_t *, size_t, uint8_t *, size_t, rec_report *);
-
-/* each side with its own store and what a run is lent */
-struct side {
-    runner *run;
-    rec_store store;
-    int32_t list[REC_LIST];
-    uint8_t output[PAPER];
-    rec_report report;
-};
-
-static struct side sides[2] = {{.run = rec_run}, {.run = plain_run}};
 
 /* processor seconds of a number of runs with an allowance each */
 static double time_of(struct side *s, uint32_t allowance, int runs) {
     double from = seconds();
-    for (int i = 0; i < runs; i++) s->run(&s->store, 'a', allowance, NULL, 0, s->list, REC_LIST, s->output, PAPER, &s->report);
+    for (int i = 0; i < runs; i++) run(s, 'a', allowance, NULL, 0);
     return seconds() - from;
 }
 
@@ -33,11 +17,6 @@ static void put(char letter, const int32_t *table, size_t n) {
         memcpy(sides[who].store.cells + (letter - 'a') * REC_CELLS, table, n * sizeof *table);
         sides[who].store.used[letter - 'a'] = n;
     }
-}
-
-static int same(void) {
-    return memcmp(&sides[0].store, &sides[1].store, sizeof(rec_store)) == 0 && memcmp(sides[0].list, sides[1].list, sizeof sides[0].list) == 0
-        && memcmp(sides[0].output, sides[1].output, PAPER) == 0 && memcmp(&sides[0].report, &sides[1].report, sizeof(rec_report)) == 0;
 }
 
 /* runs by both in turn; the best of twenty rounds */
@@ -49,9 +28,9 @@ static int compare(const char *name, uint32_t allowance, int runs) {
             if (took < best[who]) best[who] = took;
         }
     for (int who = 0; who < 2; who++) rate[who] = (double)sides[who].report.steps * runs / best[who] / 1e6;
-    if (!same()) printf("DIFFERENT ANSWERS: %s\n", name);
+    if (!same_sides()) printf("DIFFERENT ANSWERS: %s\n", name);
     printf("%-22s %7.1f M steps/s  C %7.1f  ratio %.2f\n", name, rate[0], rate[1], best[0] / best[1]);
-    return !same();
+    return !same_sides();
 }
 
 #define PUT(letter, ...) do { const int32_t t[] = {__VA_ARGS__}; put(letter, t, sizeof t / sizeof *t); } while (0)
@@ -75,7 +54,7 @@ int main(void) {
     bad |= compare("prints", 1000, 40000);
     PUT('a', 2000, 4, 0, 1); /* (;) */
     double ours = time_of(&sides[0], 1000, 1000000), theirs = time_of(&sides[1], 1000, 1000000);
-    bad |= !same();
+    bad |= !same_sides();
     printf("fixed cost of a run    %7.3f us        C %7.3f us\n", ours, theirs);
     return bad;
 }

@@ -35,8 +35,9 @@ struct trial {
 /* An address just below the frame of the caller. */
 __attribute__((noinline)) static uintptr_t below_here(void)
 {
-    volatile char here = 0;
-    return (uintptr_t)&here;
+    volatile uintptr_t here;
+    here = (uintptr_t)&here;
+    return here;
 }
 
 /* The pattern from the stack's end to here, the call, and how far it was overwritten. */

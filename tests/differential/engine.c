@@ -96,8 +96,3 @@ int32_t engine_link(const uint8_t *text, size_t length, int32_t *cells, size_t r
 {
     return rec_link(text, length, cells, room, used);
 }
-
-const char *engine_word(int32_t number)
-{
-    return rec_word(number);
-}

@@ -49,6 +49,5 @@ bool engine_call(int32_t *cells, size_t *used, int32_t *variables, const struct 
 
 int32_t engine_check(const uint8_t *text, size_t length);
 int32_t engine_link(const uint8_t *text, size_t length, int32_t *cells, size_t room, size_t *used);
-const char *engine_word(int32_t number);
 
 #endif

@@ -473,27 +473,12 @@ static bool cells(void)
     return good;
 }
 
-/* Document 01's word of each number, and `?` for what is none. */
-static bool words(void)
-{
-    bool good = true;
-    for (int32_t i = -300; i <= 300; i++) {
-        bool known = i >= 0 && i < REC_NUMBERS && (i <= REC_BAD_LINE || i >= REC_SPENT);
-        const char *expected = i == 0 ? "finished" : known ? number_word((uint32_t)i) : "?";
-        if (strcmp(engine_word(i), expected) != 0) {
-            printf("  the word of %ld: expected %s, got %s\n", (long)i, expected, engine_word(i));
-            good = false;
-        }
-    }
-    return good;
-}
-
 static bool directed(void)
 {
     text_end = fenced(TEXT_ROOM);
     room_end = fenced((ROOM + GUARD) * sizeof *room_end);
-    return words() && empty_texts() && rooms_of_each_number() && lengths() && huge_text()
-           && levels() && counters() && cells() && beginnings() && bytes_everywhere();
+    return empty_texts() && rooms_of_each_number() && lengths() && huge_text() && levels()
+           && counters() && cells() && beginnings() && bytes_everywhere();
 }
 
 /* ---- rounds ------------------------------------------------------------ */

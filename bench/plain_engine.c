@@ -1,17 +1,39 @@
-/* An interpreter in plain C: one loop over the cells, with the checks of rec_run. */
-#include "plain_runner.h"
+/* The calls of a store in plain C, with the checks of include/rec.h's. A run is one loop over the cells. */
+#include "plain_engine.h"
+#include "plain_linker.h"
 #include <string.h>
 
 struct frame { int letter, next, exit; };
 
 static int outside(int32_t value) { return value < -REC_VALUE_MAX || REC_VALUE_MAX < value; }
 
-int plain_sound(const rec_store *store) {
+/* Whether the store keeps its form; else every call of it is refused. */
+static int sound(const rec_store *store) {
     for (int i = 0; i < REC_LETTERS; i++)
         if (store->used[i] > REC_CELLS || store->used[i] == 1 || store->used[i] == 2) return 0;
     for (int i = 0; i < REC_VARIABLES; i++)
         if (outside(store->vars[i])) return 0;
     return 1;
+}
+
+void plain_fresh(rec_store *store) { memset(store, 0, sizeof *store); }
+
+int32_t plain_define(rec_store *store, uint8_t letter, const uint8_t *text, size_t length) {
+    size_t used;
+    if (!sound(store)) return REC_BAD_STORE;
+    if (letter < 'a' || 'z' < letter) return REC_NO_SUCH_LETTER;
+    int32_t number = plain_link(text, length, store->cells + (letter - 'a') * REC_CELLS, REC_CELLS, &used);
+    if (number == 0) store->used[letter - 'a'] = used;
+    return number;
+}
+
+int32_t plain_withdraw(rec_store *store, uint8_t letter) {
+    if (!sound(store)) return REC_BAD_STORE;
+    if (letter < 'a' || 'z' < letter) return REC_NO_SUCH_LETTER;
+    if (store->used[letter - 'a'] == 0) return REC_NOT_STANDING;
+    memset(store->cells + (letter - 'a') * REC_CELLS, 0, REC_CELLS * sizeof *store->cells);
+    store->used[letter - 'a'] = 0;
+    return 0;
 }
 
 static int target_of(int32_t x, int used) { return x < 2 || used < x ? 0 : x; }
@@ -189,7 +211,7 @@ out:
 }
 
 static int32_t refusal(const rec_store *store, uint8_t letter, const int32_t *inputs, size_t count, size_t places) {
-    if (!plain_sound(store)) return REC_BAD_STORE;
+    if (!sound(store)) return REC_BAD_STORE;
     if (letter < 'a' || 'z' < letter) return REC_NO_SUCH_LETTER;
     if (store->used[letter - 'a'] == 0) return REC_NOT_STANDING;
     for (size_t i = 0; i < count; i++)
