@@ -104,9 +104,9 @@ static inline const char *rec_word(int32_t number) {
 
 /*
  * A store: the texts that stand under the letters, as code tables, and the variables. The cells of letter a are cells[0] to cells[249], with document
- * 01's cell 1 first; used[0] says how many of them are used, and is 0 for a letter without a text. Variable k is vars[k]. A store may be copied, kept in
- * a file of the same machine and compared; it holds no pointer. Its contents may be anything: a store that breaks its form is refused with 13, or a run
- * of it ends with 29.
+ * 01's cell 1 first; used[0] says how many of them are used, and is 0 for a letter without a text. Variable k is vars[k]. A store has no pointer and no
+ * padding: it may be copied, compared by memcmp, and kept in a file of the same kind of machine. Its contents may be anything: a store that breaks its
+ * form is refused with 13, or a run of it ends with 29.
  */
 typedef struct {
     int32_t cells[REC_LETTERS * REC_CELLS];
