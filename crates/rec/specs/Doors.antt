@@ -20,7 +20,7 @@ use Rattle.book.specs.Store.{Store}
 abbrev pub truthFigure : Bool → ℕ
 truthFigure t = cond t 1 0
 
--- the figures of a report beside its number: truth, steps, height, inputs taken, output length
+-- "the ending, truth .., steps, list height, inputs taken and output length": the figures of a report beside its number
 abbrev pub figuresOf : Report → List ℕ
 figuresOf r = truthFigure (r .truth) ∷ r .steps ∷ r .height ∷ r .taken ∷ r .written ∷ []
 
@@ -52,7 +52,8 @@ pub record Handed : Type 0 where
 abbrev pub hands : ℕ → ℕ → List ℤ → Handed
 hands n u p = record { number = n; used = u; cells = p }
 
--- A text read, over the lent places p. A refused one leaves them as they were; of an accepted one they hold the table's cells, up to 250 of them.
+-- A text read, over the lent places p: "A refusal of any call returns its number, every other figure 0", and the places are as they were; of an accepted
+-- text they hold the table's cells, up to 250 of them.
 abbrev pub handed : List ℤ → Reading → Handed
 handed p (refused r) = hands (refusalNumber r) 0 p
 handed p (accepted w) = hands 0 (layout w .used) (paste p 0 (layout w .cells) (min maxCells (length p)))

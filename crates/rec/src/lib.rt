@@ -1,7 +1,6 @@
 // The C library: every `extern "C"` function of the product. include/rec.h is its header; its inline functions take a store apart for those here.
 ghost use mathlib.Core.Path.{_≡_};
 ghost use Prim.Native.Nat.{min};
-ghost use lib.ListN.{length};
 ghost use lib.Seq.{paste};
 ghost use Rattle.language.specs.Limits.{maxCells};
 ghost use Rattle.language.specs.Reading.{read};
