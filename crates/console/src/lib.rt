@@ -1,130 +1,183 @@
-// One desk line over a store whose arrays the caller lends: the call it asks for, done, and the bytes that it prints.
-ghost use mathlib.Core.Path.{_≡_};
-ghost use Prim.Native.Nat.{_≤_};
-ghost use lib.ListN.{length};
-ghost use Rattle.numerals.specs.Numerals.{wrote, written};
-ghost use Rattle.figures.specs.Printed.{figures, told};
-ghost use Rattle.book.specs.Store.{storeOf};
-ghost use Rattle.lines.specs.Lines.{run};
-ghost use Rattle.console.specs.Desk.{paperBytes, granted, printed, performs, performed};
-use figures::Figures;
-use figures::top;
-use figures::write_figures;
-use figures::write_output;
-use language::HEIGHT;
+// The desk as a transducer: its input goes in by parts, and what the day prints comes out, at most one line's answer a step. The store's arrays, the bytes
+// of the line so far and the paper are lent.
+use commands::PAPER;
+use commands::perform;
 use language::LETTERS;
-use language::Refusal;
 use language::STORE_CELLS;
 use language::VARIABLES;
-use lines::Command;
-use lines::FIELD_START;
-use lines::INPUTS;
-use lines::parse;
+use lines::LINE;
+use numerals::write_bytes;
+ghost use mathlib.Core.Path.{_≡_};
+ghost use Prim.Native.Nat.{_≤_, min};
+ghost use lib.ListN.{length};
+ghost use Rattle.book.specs.Store.{storeOf};
+ghost use Rattle.console.specs.Steps.{lineEnd, keptBytes};
+ghost use Rattle.console.specs.Places.{progress, advances, Keeps, Steps, Ends};
 
-// "a run's output (4,096 bytes lent)"
-const OUTPUT: usize = 4096;
+// "Lines past 9,999 are not read."
+pub const LINES: u32 = 9999;
 
-// Room for what a line can print: its figures, a run's output and a newline.
-pub const PAPER: usize = 4200;
+// Of a line of more than 300 bytes the first 301 are kept, which its form refuses.
+pub const KEPT: usize = LINE + 1;
 
-// "zeros for `D` and `X` and for refusals"
-fn tell(paper: &mut [u8], line: u32, answer: u32) -> usize
-    ensures { λ r. ⌜ wrote r (now (paper .exit)) ≡ written (now (paper .entry)) 0 (figures (told line answer)) ⌝ }
-{
-    let f = Figures {
-        line,
-        answer,
-        truth: false,
-        steps: 0,
-        height: 0,
-        top: 0,
-    };
-    write_figures(paper, 0, f)
+// Where the day is, beside its store: how many lines are done, and how many bytes of the next line stand at the start of its buffer.
+pub struct Place {
+    pub done: u32,
+    pub kept: usize,
 }
 
-// `R` letter allowance inputs.
-fn execute(
-    cells: &[i32; STORE_CELLS],
-    used: [usize; LETTERS],
-    vars: &mut [i32; VARIABLES],
-    line: u32,
-    letter: u8,
-    allowance: u32,
-    inputs: &[i32],
-    paper: &mut [u8],
-) -> usize
-    requires { ⌜ paperBytes ≤ length (now paper) ⌝ }
-    ensures { λ r. ⌜ performs (storeOf (now (cells .entry)) used (now (vars .exit))) r (now (paper .exit))
-        ≡ printed (now (paper .entry)) (granted (storeOf (now (cells .entry)) used (now (vars .entry))) line (run letter allowance (now (inputs .entry)))) ⌝ }
-{
-    let mut list = [0i32; HEIGHT];
-    let mut output = [0u8; OUTPUT];
-    let report = runner::run(
-        cells,
-        used,
-        vars,
-        letter,
-        allowance,
-        inputs,
-        &mut list,
-        &mut output,
-    );
-    let height = report.height;
-    let count = report.written;
-    let f = Figures {
-        line,
-        answer: report.number,
-        truth: report.truth,
-        steps: report.steps,
-        height: height as u32,
-        top: top(&list, height),
-    };
-    let end = write_figures(paper, 0, f);
-    write_output(paper, end, &output[..count])
+// What a step came to: where the day is then, how many bytes of the part it took, and how many it printed, at the start of the paper.
+pub struct Advance {
+    pub place: Place,
+    pub taken: usize,
+    pub printed: usize,
 }
 
-// One desk line, without its newline: what it prints stands at the start of the paper, and the answer is how many bytes that is. A paper without room
-// for any line has nothing done and nothing printed.
-pub fn perform(
+fn least(a: usize, b: usize) -> usize
+    ensures { λ r. ⌜ r ≡ min a b ⌝ }
+{
+    if a < b { a } else { b }
+}
+
+// How many bytes of a part come before its first newline: all, where it has none.
+pub fn line_end(part: &[u8]) -> usize
+    ensures { λ r. ⌜ r ≡ lineEnd (now (part .entry)) ⌝ }
+{
+    let mut i: usize = 0;
+    while i < part.len() {
+        if part[i] == b'\n' {
+            return i;
+        }
+        i += 1;
+    }
+    i
+}
+
+// The line so far with more bytes after it, up to 301 in all: how many there are then.
+fn keep(line: &mut [u8], kept: usize, bytes: &[u8]) -> usize
+    requires { ⌜ keptBytes ≤ length (now line) ⌝ }
+    ensures { λ r. ⌜ Keeps (now (line .entry)) kept (now (bytes .entry)) (now (line .exit)) r ⌝ }
+{
+    let at = least(kept, KEPT);
+    let n = least(bytes.len(), KEPT - at);
+    write_bytes(line, at, &bytes[..n])
+}
+
+// A step over the next part of the input: to the end of the line, which is obeyed, or to the end of the part. After the last line all is taken and
+// nothing done. Where the line's buffer has less than 301 bytes, or the paper no room for any line, nothing is done and nothing taken.
+pub fn step(
     cells: &mut [i32; STORE_CELLS],
     used: &mut [usize; LETTERS],
     vars: &mut [i32; VARIABLES],
-    number: u32,
-    line: &[u8],
+    line: &mut [u8],
+    place: Place,
+    part: &[u8],
     paper: &mut [u8],
-) -> usize
-    ensures { λ r. ⌜ performs (storeOf (now (cells .exit)) (now (used .exit)) (now (vars .exit))) r (now (paper .exit))
-        ≡ performed (storeOf (now (cells .entry)) (now (used .entry)) (now (vars .entry))) number (now (line .entry)) (now (paper .entry)) ⌝ }
+) -> Advance
+    ensures { λ r. ⌜ Steps (now (line .entry)) (now (paper .entry)) (now (part .entry))
+        (progress (storeOf (now (cells .entry)) (now (used .entry)) (now (vars .entry))) place (now (line .entry)))
+        (advances (progress (storeOf (now (cells .exit)) (now (used .exit)) (now (vars .exit))) (r .place) (now (line .exit)))
+        (r .taken) (r .printed) (now (paper .exit))) ⌝ }
 {
-    if paper.len() < PAPER {
-        return 0;
+    if line.len() < KEPT {
+        return Advance {
+            place,
+            taken: 0,
+            printed: 0,
+        };
     }
-    let mut inputs = [0i32; INPUTS];
-    let command = parse(line, &mut inputs);
-    match command {
-        Command::Define(letter) => {
-            let kept = *vars;
-            let answer = lent::define(cells, used, kept, letter, &line[FIELD_START..]);
-            tell(paper, number, answer)
-        }
-        Command::Withdraw(letter) => {
-            let kept = *vars;
-            let answer = lent::withdraw(cells, used, kept, letter);
-            tell(paper, number, answer)
-        }
-        Command::Run(letter, allowance, count) => {
-            let counts = *used;
-            execute(
-                cells,
-                counts,
-                vars,
-                number,
-                letter,
-                allowance,
-                &inputs[..count],
-                paper,
-            )
-        }
-        Command::Bad => tell(paper, number, Refusal::BadLine.number()),
+    if paper.len() < PAPER {
+        return Advance {
+            place,
+            taken: 0,
+            printed: 0,
+        };
+    }
+    if LINES <= place.done {
+        return Advance {
+            place,
+            taken: part.len(),
+            printed: 0,
+        };
+    }
+    let end = line_end(part);
+    let kept = keep(line, place.kept, &part[..end]);
+    if end == part.len() {
+        let grown = Place {
+            done: place.done,
+            kept,
+        };
+        return Advance {
+            place: grown,
+            taken: end,
+            printed: 0,
+        };
+    }
+    let number = place.done + 1;
+    let printed = perform(cells, used, vars, number, &line[..kept], paper);
+    let next = Place {
+        done: number,
+        kept: 0,
+    };
+    Advance {
+        place: next,
+        taken: end + 1,
+        printed,
+    }
+}
+
+// The end of the input: a last line without newline is obeyed. Buffers that are too small have nothing done.
+pub fn finish(
+    cells: &mut [i32; STORE_CELLS],
+    used: &mut [usize; LETTERS],
+    vars: &mut [i32; VARIABLES],
+    line: &[u8],
+    place: Place,
+    paper: &mut [u8],
+) -> Advance
+    ensures { λ r. ⌜ Ends (now (line .entry)) (now (paper .entry))
+        (progress (storeOf (now (cells .entry)) (now (used .entry)) (now (vars .entry))) place (now (line .entry)))
+        (advances (progress (storeOf (now (cells .exit)) (now (used .exit)) (now (vars .exit))) (r .place) (now (line .entry)))
+        (r .taken) (r .printed) (now (paper .exit))) ⌝ }
+{
+    if line.len() < KEPT {
+        return Advance {
+            place,
+            taken: 0,
+            printed: 0,
+        };
+    }
+    if paper.len() < PAPER {
+        return Advance {
+            place,
+            taken: 0,
+            printed: 0,
+        };
+    }
+    if LINES <= place.done {
+        return Advance {
+            place,
+            taken: 0,
+            printed: 0,
+        };
+    }
+    if place.kept == 0 {
+        return Advance {
+            place,
+            taken: 0,
+            printed: 0,
+        };
+    }
+    let kept = least(place.kept, KEPT);
+    let number = place.done + 1;
+    let printed = perform(cells, used, vars, number, &line[..kept], paper);
+    let next = Place {
+        done: number,
+        kept: 0,
+    };
+    Advance {
+        place: next,
+        taken: 0,
+        printed,
     }
 }

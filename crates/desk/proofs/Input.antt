@@ -1,65 +1,111 @@
--- The desk's input, one byte at a time.
+-- The desk's input in parts.
 use mathlib.Core.Path.{_≡_, refl, sym, ap, _∙_}
-use mathlib.Core.Bool.{Bool, true, false, cond}
-use mathlib.Core.List.{List, [], _∷_}
-use Prim.Native.Nat.{ℕ, zero, suc, _+_, _≤_, _<_}
-use native.Mathlib.Numerals.{add-one}
+use mathlib.Core.List.{List, [], _++_, append-assoc}
+use mathlib.Core.Bool.{Bool, true}
+use Prim.Native.Nat.{ℕ, _+_, _-_, _≤_, _<_, min}
 use native.Mathlib.Omega.{arith}
-use lib.ListN.{length, getD, take, set}
-use lib.Seq.{length-take-le, take-suc-set}
-use borrow.Author.Tests.{lt-ltb, le-ltb, eq-eqb, ne-eqb}
-use Rattle.language.specs.Bytes.{newlineByte}
-use Rattle.console.specs.Desk.{deskLine}
-use Rattle.book.specs.Store.{Store}
-use Rattle.desk.specs.declared.Desk.{Desk}
-use Rattle.desk.specs.Input.{maxLines, keptBytes, Progress, longer, progress, ended, fedByte, fed, Fits}
+use lib.ListN.{length, take, drop, length-drop, length-take}
+use lib.Seq.{take-all, take-append-le, take-append-add, drop-drop, length-take-le}
+use Rattle.book.specs.Store.{Store, storeCall}
+use Rattle.commands.specs.Served.{paperBytes}
+use Rattle.console.specs.Day.{Progress, dayFrom}
+use Rattle.console.specs.Steps.{keptBytes}
+use Rattle.console.specs.Places.{Advanced, Steps}
+use Rattle.console.proofs.Places.{Goes, goes}
+use Rattle.desk.specs.Input.{heldBytes, Lent, Serves, Relays}
 
-module _ (s : List ℕ) (k b : ℕ) (n : length s ≡ keptBytes) where
-  pub one-more : k < keptBytes → take (k + 1) (set s k b) ≡ longer (take k s) b
-  unfolding longer
-  one-more h =
-      ap (λ j. take j (set s k b)) (add-one k)
-      ∙ take-suc-set s k b (omega arith)
-      ∙ sym (simp (lt-ltb (length (take k s)) keptBytes (omega (arith, length-take-le k s (omega arith)))))
+-- `at` bytes of the part s from p on are taken, and what they printed is held
+pub record Serving (s : List ℕ) (p : Progress Store) (at held : ℕ) (p′ : Progress Store) (l o : List ℕ) : Type 0 where
+  pub inside : at ≤ length s
+  pub after : min 1 held ≤ at
+  pub few : held ≤ heldBytes
+  pub buffers : Lent l o
+  pub day : (rest : List ℕ) → dayFrom storeCall p (s ++ rest) ≡ take held o ++ dayFrom storeCall p′ (drop at s ++ rest)
 
-  pub no-more : keptBytes ≤ k → k ≤ keptBytes → take k s ≡ longer (take k s) b
-  unfolding longer
-  no-more h g = sym (simp (le-ltb (length (take k s)) keptBytes (omega (arith, length-take-le k s (omega arith)))))
+-- the rest of a part
+abbrev pub restOf : List ℕ → ℕ → List ℕ
+restOf s at = take (length s - at) (drop at s)
 
--- past the last line nothing is done, broken or not
-pub past-last : (p : Progress) (b : Bool) → maxLines ≤ p .done → p ≡ cond b p (ended p)
-unfolding ended
-past-last p true h = refl
-past-last p false h = sym (simp (le-ltb (p .done) maxLines h))
+rest-is : (s : List ℕ) (at : ℕ) → restOf s at ≡ drop at s
+rest-is s at = take-all (length s - at) (drop at s) (omega (arith, length-drop at s))
 
-pub one-line : (p q : Progress) → p .done < maxLines → q .store ≡ deskLine (p .store) (p .done + 1) (p .line) .store → q .done ≡ p .done + 1 → q .line ≡ []
-    → q ≡ ended p
-unfolding ended
-one-line p q h a b c = (λ i. record { store = a i; done = b i; line = c i }) ∙ sym (simp (lt-ltb (p .done) maxLines h))
+pub rest-size : (s : List ℕ) (at : ℕ) → length (restOf s at) ≡ length s - at
+rest-size s at = ap length (rest-is s at) ∙ length-drop at s
 
--- what a beginning leads to, and one byte more
-fed-next : (s : List ℕ) (i : ℕ) (p : Progress) → i < length s → fed (take (suc i) s) p ≡ fedByte (getD s i 0) (fed (take i s) p)
-unfolding fed
-fed-next [] i p h = absurd (omega arith)
-fed-next (b ∷ l) zero p h = refl
-fed-next (b ∷ l) (suc i) p h = fed-next l i (fedByte b p) (omega arith)
+-- bytes b of the day of the part s from p on, and more bytes of its rest
+day-more : (s : List ℕ) (p p′ p″ : Progress Store) (at n : ℕ) (a b : List ℕ)
+    → ((rest : List ℕ) → dayFrom storeCall p (s ++ rest) ≡ a ++ dayFrom storeCall p′ (drop at s ++ rest))
+    → ((rest : List ℕ) → dayFrom storeCall p′ (restOf s at ++ rest) ≡ b ++ dayFrom storeCall p″ (drop n (restOf s at) ++ rest))
+    → (rest : List ℕ) → dayFrom storeCall p (s ++ rest) ≡ a ++ b ++ dayFrom storeCall p″ (drop (at + n) s ++ rest)
+day-more s p p′ p″ at n a b f g rest =
+    f rest
+    ∙ ap (λ (d : List ℕ). a ++ d)
+    (ap (λ (d : List ℕ). dayFrom storeCall p′ (d ++ rest)) (sym (rest-is s at))
+    ∙ g rest
+    ∙ ap (λ (d : List ℕ). b ++ dayFrom storeCall p″ (d ++ rest)) (ap (drop n) (rest-is s at) ∙ drop-drop n at s))
+    ∙ sym (append-assoc a b (dayFrom storeCall p″ (drop (at + n) s ++ rest)))
 
-module _ (s : List ℕ) (i : ℕ) (p : Progress) (h : i < length s) where
-  fed-at : fedByte (getD s i 0) (fed (take i s) p) ≡ fed (take (i + 1) s) p
-  fed-at = sym (fed-next s i p h) ∙ ap (λ j. fed (take j s) p) (sym (add-one i))
+-- ── steps ───────────────────────────────────────────────────────────────────────────────────────
 
-  pub fed-newline : getD s i 0 ≡ newlineByte → ended (fed (take i s) p) ≡ fed (take (i + 1) s) p
-  unfolding fedByte
-  fed-newline e = sym (simp (eq-eqb (getD s i 0) newlineByte e)) ∙ fed-at
+module _ (s : List ℕ) (p : Progress Store) (at held : ℕ) (p′ : Progress Store) (l o : List ℕ) (q : Serving s p at held p′ l o)
+    (left : at < length s) (room : held + paperBytes ≤ heldBytes) (x : Advanced) (e : Steps l (restOf o held) (restOf s at) p′ x) where
+  pub step-went : Goes (restOf o held) (restOf s at) p′ x
+  step-went =
+      goes p′ l (restOf o held) (restOf s at) x (omega (arith, q .buffers .line)) (omega (arith, rest-size o held, q .buffers .out)) e
 
-  pub fed-other : (getD s i 0 ≡ newlineByte → ⊥)
-      → let q = fed (take i s) p in
-      record { store = q .store; done = q .done; line = longer (q .line) (getD s i 0) } ≡ fed (take (i + 1) s) p
-  unfolding fedByte
-  fed-other e = sym (simp (ne-eqb (getD s i 0) newlineByte e)) ∙ fed-at
+  pub serving-more : (l″ after : List ℕ) → length l″ ≡ keptBytes → length (take held o ++ (x .paper ++ after)) ≡ heldBytes
+      → Serving s p (at + x .taken) (held + x .printed) (x .to) l″ (take held o ++ (x .paper ++ after))
+  serving-more l″ after h g =
+      let z = step-went in
+      let size = length-take-le held o (omega (arith, q .few, q .buffers .out)) in
+      let fits : x .printed ≤ length (x .paper) = omega (arith, z .little, z .paper, rest-size o held, q .buffers .out) in
+      let printed : take (held + x .printed) (take held o ++ (x .paper ++ after)) ≡ take held o ++ take (x .printed) (x .paper) =
+          ap (λ n. take (n + x .printed) (take held o ++ (x .paper ++ after))) (sym size)
+          ∙ take-append-add (take held o) (x .paper ++ after) (x .printed)
+          ∙ ap (λ (b : List ℕ). take held o ++ b) (take-append-le (x .printed) (x .paper) after fits)
+      in
+      record {
+        inside = omega (arith, z .takes .inside, rest-size s at, q .inside);
+        after = omega (arith, z .takes .some, rest-size s at, q .after, q .inside);
+        few = omega (arith, z .little);
+        buffers = record { line = h; out = g };
+        day = λ rest.
+            day-more s p p′ (x .to) at (x .taken) (take held o) (take (x .printed) (x .paper)) (q .day) (e .day) rest
+            ∙ ap (λ (b : List ℕ). b ++ dayFrom storeCall (x .to) (drop (at + x .taken) s ++ rest)) (sym printed);
+      }
 
--- i bytes of a part that was fed at p are done
-pub record Feeding (part : List ℕ) (i : ℕ) (st : Store) (d : Desk) (l o : List ℕ) (p : Progress) : Type 0 where
-  pub inside : i ≤ length part
-  pub fits : Fits d l o
-  pub same : progress st d l ≡ fed (take i part) p
+-- ── parts ───────────────────────────────────────────────────────────────────────────────────────
+
+-- `at` bytes of the part s from p on went through the desk
+pub record Relaying (s : List ℕ) (p : Progress Store) (at : ℕ) (p′ : Progress Store) (l o : List ℕ) : Type 0 where
+  pub inside : at ≤ length s
+  pub buffers : Lent l o
+  pub bytes : List ℕ
+  pub day : (rest : List ℕ) → dayFrom storeCall p (s ++ rest) ≡ bytes ++ dayFrom storeCall p′ (drop at s ++ rest)
+
+module _ (s : List ℕ) (p : Progress Store) (at : ℕ) (p′ : Progress Store) (l o : List ℕ) (q : Relaying s p at p′ l o) where
+  -- the whole part
+  pub relays-all : (written : Bool) → length s ≤ at → Relays s p p′ at written
+  relays-all written h = record { inside = q .inside; whole = λ e. omega (arith, q .inside); bytes = q .bytes; day = q .day }
+
+  -- steps over the rest of the part
+  module _ (x : Advanced) (e : Serves (restOf s at) p′ x) where
+    inside : at + x .taken ≤ length s
+    inside = omega (arith, e .inside, rest-size s at, q .inside)
+
+    day : (rest : List ℕ)
+        → dayFrom storeCall p (s ++ rest) ≡ q .bytes ++ take (x .printed) (x .paper) ++ dayFrom storeCall (x .to) (drop (at + x .taken) s ++ rest)
+    day = day-more s p p′ (x .to) at (x .taken) (q .bytes) (take (x .printed) (x .paper)) (q .day) (e .day)
+
+    pub relaying-more : (l″ o″ : List ℕ) → Lent l″ o″ → Relaying s p (at + x .taken) (x .to) l″ o″
+    relaying-more l″ o″ b = record { inside = inside; buffers = b; bytes = q .bytes ++ take (x .printed) (x .paper); day = day }
+
+    pub relays-some : (written : Bool) → (written ≡ true → at + x .taken ≡ length s) → Relays s p (x .to) (at + x .taken) written
+    relays-some written h = record { inside = inside; whole = h; bytes = q .bytes ++ take (x .printed) (x .paper); day = day }
+
+-- ── the whole input ─────────────────────────────────────────────────────────────────────────────
+
+-- the buffers between two reads
+pub record Reading (l o buffer : List ℕ) : Type 0 where
+  pub buffers : Lent l o
+  pub size : length buffer ≡ 65536

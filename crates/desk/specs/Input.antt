@@ -1,110 +1,45 @@
--- The desk within its input: what each byte does to the store, the count of lines and the line that is read. What a line prints goes to standard
--- output, of which no contract speaks.
+-- The desk's input in parts: what goes through the desk between a read and a write.
 use mathlib.Core.Path.{_≡_}
-use Prim.Native.Nat.{ℕ, suc, _+_, _≤_, _<_}
-use mathlib.Core.Bool.{false, cond}
-use mathlib.Core.List.{List, [], _∷_, _++_}
-use lib.ListN.{length, take}
-use lib.Dec.{ltb, eqb}
-use Rattle.book.specs.Store.{Store}
-use Rattle.lines.specs.Lines.{maxLine}
-use Rattle.language.specs.Bytes.{newlineByte}
-use Rattle.console.specs.Desk.{paperBytes, deskLine}
-use Rattle.desk.specs.declared.Desk.{Desk}
-use Rattle.desk.specs.declared.Room.{Room}
-use Rattle.desk.specs.declared.Room.the-variants.{After, Lost}
-
--- "Lines past 9,999 are not read."
-abbrev pub maxLines : ℕ
-maxLines = 9999
-
--- "lines to 300 bytes before the newline": of a longer one the first 301 bytes are kept
-abbrev pub keptBytes : ℕ
-keptBytes = suc maxLine
+use Prim.Native.Nat.{ℕ, _+_, _≤_, min}
+use mathlib.Core.Bool.{Bool, true, false}
+use mathlib.Core.List.{List, _++_}
+use lib.ListN.{length, take, drop}
+use Rattle.book.specs.Store.{Store, freshStore, storeCall}
+use Rattle.commands.specs.Served.{paperBytes}
+use Rattle.console.specs.Day.{Progress, dayFrom}
+use Rattle.console.specs.Steps.{keptBytes}
+use Rattle.console.specs.Places.{Advanced}
 
 -- the bytes of output that are held before they are written
 abbrev pub heldBytes : ℕ
 heldBytes = 65536
 
--- The store, how many lines are done, and the bytes of the next line.
-pub record Progress : Type 0 where
-  pub store : Store
-  pub done : ℕ
-  pub line : List ℕ
-
--- the code's, with its store and its line buffer
-abbrev pub progress : Store → Desk → List ℕ → Progress
-progress st d b = record { store = st; done = d .done; line = take (d .kept) b }
-
--- a line with one byte more
-unfoldable pub longer : List ℕ → ℕ → List ℕ
-longer l b = cond (ltb (length l) keptBytes) (l ++ (b ∷ [])) l
-
--- the line is whole
-unfoldable pub ended : Progress → Progress
-ended p =
-    cond (ltb (p .done) maxLines) (record { store = deskLine (p .store) (p .done + 1) (p .line) .store; done = p .done + 1; line = [] }) p
-
--- one byte of input
-unfoldable pub fedByte : ℕ → Progress → Progress
-unfolding longer ended
-fedByte b p = cond (eqb b newlineByte) (ended p) (record { store = p .store; done = p .done; line = longer (p .line) b })
-
--- a part of the input
-unfoldable pub fed : List ℕ → Progress → Progress
-unfolding fedByte
-fed [] p = p
-fed (b ∷ l) p = fed l (fedByte b p)
-
--- ── the code's buffers ──────────────────────────────────────────────────────────────────────────
-
--- so many bytes of a line are kept, in a buffer of 301
-pub record Keeping (kept : ℕ) (l : List ℕ) : Type 0 where
-  pub few : kept ≤ keptBytes
-  pub whole : length l ≡ keptBytes
-
--- the line l with the byte b after its first bytes is l′, of which r are kept
-pub record Kept (l : List ℕ) (kept b : ℕ) (l′ : List ℕ) (r : ℕ) : Type 0 where
-  pub few : r ≤ keptBytes
-  pub bytes : take r l′ ≡ longer (take kept l) b
-
--- so many bytes of output are held, in a buffer of 65,536
-pub record Holding (held : ℕ) (o : List ℕ) : Type 0 where
-  pub few : held ≤ heldBytes
-  pub whole : length o ≡ heldBytes
-
--- what is kept and held fits the buffers
-pub record Within (d : Desk) : Type 0 where
-  pub kept : d .kept ≤ keptBytes
-  pub held : d .held ≤ heldBytes
-
--- the same with the buffers
-pub record Fits (d : Desk) (l o : List ℕ) : Type 0 where
-  pub within : Within d
+-- the buffers of the line so far and of the output
+pub record Lent (l o : List ℕ) : Type 0 where
   pub line : length l ≡ keptBytes
   pub out : length o ≡ heldBytes
 
--- after the bytes that are held there is room for what any line prints
-abbrev pub Roomy : Room → Type 0
-Roomy (After n) = n + paperBytes ≤ heldBytes
-Roomy Lost = Unit {0}
+-- "The desk program starts from a fresh store"
+pub record Fresh (st : Store) (l o : List ℕ) : Type 0 where
+  pub store : st ≡ freshStore
+  pub buffers : Lent l o
 
--- a line may be obeyed, and there is room for what it prints after n bytes
-pub record Obeying (d : Desk) (n : ℕ) (l o : List ℕ) : Type 0 where
-  pub fits : Fits d l o
-  pub read : d .done < maxLines
-  pub room : n + paperBytes ≤ heldBytes
+-- answers of n bytes need not be written before the next line, unless r: its answer finds room after them
+pub record Undue (n : ℕ) (r : Bool) : Type 0 where
+  pub room : r ≡ false → n ≤ heldBytes → n + paperBytes ≤ heldBytes
+  pub held : r ≡ true → 1 ≤ n
 
--- The desk d with the store st and the line buffer l, to which the line of p was whole: it has done the line, or it is broken and has done nothing.
-pub record Finished (d : Desk) (st : Store) (l : List ℕ) (p : Progress) : Type 0 where
-  pub within : Within d
-  pub to : progress st d l ≡ cond (d .broken) p (ended p)
+-- A part s from p on, as far as x: some of it is taken, and what the day prints from here is what stands at the start of the output and then what it prints
+-- from there, whatever comes after the part.
+pub record Serves (s : List ℕ) (p : Progress Store) (x : Advanced) : Type 0 where
+  pub some : min 1 (length s) ≤ x .taken
+  pub inside : x .taken ≤ length s
+  pub few : x .printed ≤ heldBytes
+  pub day : (rest : List ℕ) → dayFrom storeCall p (s ++ rest) ≡ take (x .printed) (x .paper) ++ dayFrom storeCall (x .to) (drop (x .taken) s ++ rest)
 
--- The desk d with the store st and the line buffer l, to which a part was fed at p: it has come to what a beginning of the part leads to, and unless it is
--- broken that is the whole part.
-pub record Fed (d : Desk) (st : Store) (l part : List ℕ) (p : Progress) : Type 0 where
-  pub within : Within d
-  pub taken : ℕ
-  pub inside : taken ≤ length part
-  pub to : progress st d l ≡ fed (take taken part) p
-  pub whole : d .broken ≡ false → taken ≡ length part
+-- A part s from p on, as far as p′, after n of its bytes, which are all unless a write failed: between them no line of it is lost and none done twice.
+pub record Relays (s : List ℕ) (p p′ : Progress Store) (n : ℕ) (written : Bool) : Type 0 where
+  pub inside : n ≤ length s
+  pub whole : written ≡ true → n ≡ length s
+  pub bytes : List ℕ
+  pub day : (rest : List ℕ) → dayFrom storeCall p (s ++ rest) ≡ bytes ++ dayFrom storeCall p′ (drop n s ++ rest)

@@ -7,6 +7,8 @@ ghost use Rattle.language.specs.Reading.{read};
 ghost use Rattle.linker.specs.Linked.{linked};
 ghost use Rattle.book.specs.Calls.{defines, withdraws, running};
 ghost use Rattle.book.specs.Store.{storeOf, freshStore, storeCall, told};
+ghost use Rattle.console.specs.Day.{dayOf};
+ghost use Rattle.day.specs.Played.{plays, played};
 ghost use Rattle.rec.specs.Doors.{truthFigure, opens, opened, hands, handed, Copies};
 use language::LETTERS;
 use language::STORE_CELLS;
@@ -145,4 +147,17 @@ pub extern "C" fn rec_link(text: &[u8], cells: &mut [i32], used: &mut usize) -> 
     let n = at_most(cells.len());
     copy_cells(&table, cells, n);
     0
+}
+
+// ── a day ───────────────────────────────────────────────────────────────────────────────────────
+
+// All that the desk prints for an input, from a fresh store: 0 and how many bytes that is, at the start of the output. Where they do not all fit, the
+// number of a short output and 0, and the output stays as it was.
+#[no_mangle]
+pub extern "C" fn rec_day(input: &[u8], output: &mut [u8], written: &mut usize) -> u32
+    ensures { λ r. ⌜ plays r (now (written .exit)) (now (output .exit)) ≡ played (now (output .entry)) (dayOf (now (input .entry))) ⌝ }
+{
+    let w = day::play(input, output);
+    *written = w.count;
+    w.number
 }

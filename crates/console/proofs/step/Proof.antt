@@ -1,0 +1,53 @@
+-- `console::step` meets its contract.
+use mathlib.Core.Path.{sym}
+use Prim.Native.Nat.{_<_}
+use native.Mathlib.Omega.{arith}
+use lib.ListN.{length}
+use lib.Seq.{length-take-le}
+use denote.Ref.{now}
+use Rattle.console.proofs.Day.{line-end-le}
+use Rattle.console.proofs.Places.{steps, short-line, short-paper, steps-past, steps-grown, steps-line}
+use borrow.Author.Needs.{needs}
+use Rattle.console.proofs.step.Statement.{statement}
+use Rattle.console.proofs.step.Tie as tie
+
+returns : tie.Need-returns
+returns c = steps _ _ _ _ _ (short-line _ _ _ _ (c .if1 .taken))
+
+returns-2 : tie.Need-returns-2
+returns-2 c = steps _ _ _ _ _ (short-paper _ _ _ _ (c .if2 .taken))
+
+returns-3 : tie.Need-returns-3
+returns-3 c = steps _ _ _ _ _ (steps-past _ _ _ (c .before .before .before .if1 .left) (c .before .before .if2 .left) _ (c .if3 .taken))
+
+slice-aggregate-keep : tie.Need-slice-aggregate-keep
+slice-aggregate-keep c =
+    let s = c .before .before .before .before .before .before .before .before .before .before in
+    sym (length-take-le (c .before .before .line-end .result) (now (s .args .part)) (omega (arith, c .before .before .line-end .ensures, line-end-le (now (s .args .part)))))
+
+returns-4 : tie.Need-returns-4
+returns-4 c =
+    steps _ _ _ _ _
+    (steps-grown _ _ _ (c .before .before .before .before .before .before .before .before .before .before .if1 .left) (c .before .before .before .before .before .before .before .before .before .if2 .left) (c .before .before .before .before .before .before .before .if3 .left) _ _ _ (c .before .before .before .before .before .before .line-end .ensures) (c .before .before .before .keep .ensures .bytes) (c .if4 .taken))
+
+-- the newline is within the part
+inside : (c : tie.Else4) → c .before .before .before .before .before .before .line-end .result < length (now (c .before .before .before .before .before .before .before .before .before .before .before .before .before .before .args .part))
+inside c = let s = c .before .before .before .before .before .before .before .before .before .before .before .before .before .before in omega (arith, c .if4 .left, c .before .before .before .before .before .before .line-end .ensures, line-end-le (now (s .args .part)))
+
+slice-aggregate-perform : tie.Need-slice-aggregate-perform
+slice-aggregate-perform c =
+    let k = c .before .before .before .before .before .before .before .before in
+    sym (length-take-le (k .keep .result) (k .keep .last .0) (omega (arith, k .keep .ensures .few, c .before .before .before .before .before .before .before .before .before .before .before .before .before .before .before .if1 .left)))
+
+add-t14 : tie.Need-add-t14
+add-t14 c = let h = inside (c .before .before .before .before .before .before .before .before .before) in search needs
+
+returns-5 : tie.Need-returns-5
+returns-5 c =
+    steps _ _ _ _ _
+    (steps-line _ _ _ (c .before .before .before .before .before .before .before .before .before .before .before .before .before .before .before .before .before .before .before .if1 .left) (c .before .before .before .before .before .before .before .before .before .before .before .before .before .before .before .before .before .before .if2 .left) (c .before .before .before .before .before .before .before .before .before .before .before .before .before .before .before .before .if3 .left) _ _ _ (c .before .before .before .before .before .before .before .before .before .before .before .before .before .before .before .line-end .ensures) (c .before .before .before .before .before .before .before .before .before .before .before .before .keep .ensures .bytes) _ _ _ (inside (c .before .before .before .before .before .before .before .before .before)) (c .before .before .perform .ensures))
+
+pub step-spec : {M : Type 1} → statement M
+step-spec =
+    tie.close (tie.spec returns returns-2 returns-3 (λ c κs. search needs) slice-aggregate-keep (λ c κs. search needs) (λ c. search needs) returns-4
+    (λ c. search needs) (λ c. search needs) slice-aggregate-perform (λ c κs. search needs) add-t14 (λ c. search needs) (λ c. search needs) returns-5)
