@@ -2,13 +2,13 @@
  * The REC engine for C and C++. Link with librec.a (pkg-config rec). docs/C.md is the guide, with a complete program.
  *
  * Every function returns for any text, letter, store contents, inputs, allowance and buffer contents. A function that answers with a number answers 0 or
- * a number of enum rec_number. A refused call (1 to 14) leaves the store, the list, the output and the cells as they were, and its figures are 0.
+ * a number of enum rec_number. A refused call (1 to 14, 50) leaves the store, the list, the output and the cells as they were, and its figures are 0.
  *
  * What the caller sees to, and nothing checks:
  *   pointers    Each points to as many elements as its type or the length after it says, aligned for their type. Where the length is 0 it may be null.
- *               store, report and used are never null.
- *   overlap     What a call may write (the store, the list, the output, the report, the cells, *used) overlaps nothing else that the call is passed.
- *               What it only reads (text, inputs) may overlap.
+ *               store, report, used and written are never null.
+ *   overlap     What a call may write (the store, the list, the output, the report, the cells, *used, *written) overlaps nothing else that the call is
+ *               passed. What it only reads (text, inputs, input) may overlap.
  *   threads     The library has no data of its own. Any thread may call it; calls at the same time use different stores and buffers.
  *   stack       Below 16 KiB for rec_run and 64 KiB for each other function (docs/C.md has the measured table).
  *
@@ -26,8 +26,8 @@ extern "C" {
 
 /* The version of this header and of the archive beside it. */
 #define REC_VERSION_MAJOR 1
-#define REC_VERSION_MINOR 0
-#define REC_VERSION "1.0"
+#define REC_VERSION_MINOR 1
+#define REC_VERSION "1.1"
 
 /* Document 01's limits. */
 #define REC_TEXT 256            /* bytes of a text */
@@ -40,7 +40,7 @@ extern "C" {
 #define REC_CALLS 100           /* calls within calls */
 #define REC_VALUE_MAX 999999999 /* values lie from -REC_VALUE_MAX to REC_VALUE_MAX */
 
-/* Document 01's numbers. 1 to 14 refuse a call, 20 to 29 end a run. */
+/* Document 01's numbers, and one of this library's own. 1 to 14 refuse a call, 20 to 29 end a run, 50 refuses a day. */
 enum rec_number {
     REC_FINISHED = 0,       /* a run that finished; any other call accepted */
     REC_NO_SUCH_LETTER = 1, /* not `a` to `z` */
@@ -66,8 +66,9 @@ enum rec_number {
     REC_PAPER_OUT = 26,     /* the bytes of a print, `O` or `X` do not all fit */
     REC_NO_TEXT = 27,       /* call of a cleared letter */
     REC_DEEP_CALLS = 28,    /* a 101st nested call */
-    REC_DAMAGED = 29        /* the due cell, or a cell of the mark there, breaks the form that a table's cells have (document 01 lists the clauses); a
+    REC_DAMAGED = 29,       /* the due cell, or a cell of the mark there, breaks the form that a table's cells have (document 01 lists the clauses); a
                                table that keeps the form is obeyed, whether or not a text links to it */
+    REC_SHORT_OUTPUT = 50   /* rec_day: what the day prints does not all fit */
 };
 
 /* A number's word, "not standing" for 10, and "?" for what is no number. */
@@ -98,6 +99,7 @@ static inline const char *rec_word(int32_t number) {
     case REC_NO_TEXT: return "no text";
     case REC_DEEP_CALLS: return "deep calls";
     case REC_DAMAGED: return "damaged";
+    case REC_SHORT_OUTPUT: return "short output";
     default: return "?";
     }
 }
@@ -170,6 +172,15 @@ int32_t rec_check(const uint8_t *text, size_t length);
  * `room` has; cells past the 250th stay as they were. Where it is refused, *used is 0 and every cell stays as it was.
  */
 int32_t rec_link(const uint8_t *text, size_t length, int32_t *cells, size_t room, size_t *used);
+
+/* ---- a day at the desk ---- */
+
+/*
+ * All that the desk program prints for an input, from a fresh store to the end of the input: 0, *written bytes, at the start of the output, whose other
+ * bytes stay as they were. Where they do not all fit, REC_SHORT_OUTPUT, *written is 0 and the output stays as it was. The day is done twice, the first
+ * time to see how long it is; so a call takes twice the time of its runs.
+ */
+int32_t rec_day(const uint8_t *input, size_t length, uint8_t *output, size_t room, size_t *written);
 
 #ifdef __cplusplus
 }

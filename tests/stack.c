@@ -95,6 +95,25 @@ static void run(void)
     number = rec_run(&store, letter, allowance, inputs, REC_LIST, list, places, output, PAPER, &report);
 }
 
+/* A day of two lines: the text under q, and a run of it; and a last line that is too long. */
+static void day(void)
+{
+    static uint8_t input[1000], paper[3 * (PAPER + 40)];
+    static size_t written;
+    size_t length = 0;
+    memcpy(input, "D q ", 4);
+    length = 4;
+    if (text.length <= 500) {
+        memcpy(input + length, text.bytes, text.length);
+        length += text.length;
+    }
+    memcpy(input + length, "\nR q 100000 1 -2 3\n", 19);
+    length += 19;
+    memset(input + length, 'x', 400);
+    length += 400;
+    number = rec_day(input, length, paper, sizeof paper, &written);
+}
+
 static void nothing(void) {}
 
 /* A byte that is written may be the pattern's, so there are two patterns. */
@@ -119,7 +138,8 @@ static struct function {
     void (*call)(void);
     size_t need;
 } functions[] = {{"rec_fresh", fresh, 0},   {"rec_check", check, 0},       {"rec_link", link_text, 0},
-                 {"rec_define", define, 0}, {"rec_withdraw", withdraw, 0}, {"rec_run", run, 0}};
+                 {"rec_define", define, 0}, {"rec_withdraw", withdraw, 0}, {"rec_run", run, 0},
+                 {"rec_day", day, 0}};
 enum { FUNCTIONS = sizeof functions / sizeof functions[0] };
 
 static void try(void (*call)(void))
@@ -246,6 +266,17 @@ static void deep_run(void)
         fail("the deep run is not full");
 }
 
+/* Days: of a run that fills the list and prints, and of refused lines. */
+static void days(void)
+{
+    text_of("('/7'$63$P:''full 'OXg;)", "", 0, "");
+    expect(day, 0);
+    text_of("(", "N", 124, ")");
+    expect(day, 0);
+    text_of("(", "''abcdefghijklmnopqrstuvwxyz'", 8, ":)");
+    expect(day, 0);
+}
+
 /* A table that is no text's: every clause of 29 ends a run in the same way. */
 static void damaged_run(void)
 {
@@ -266,6 +297,7 @@ int main(void)
     refusals();
     deep_run();
     damaged_run();
+    days();
     random_texts();
     for (size_t i = 0; i < FUNCTIONS; i++)
         printf("%s %zu\n", functions[i].name, functions[i].need);

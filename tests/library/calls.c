@@ -216,6 +216,37 @@ static void links(void) {
     HOLDS(rec_check(text, 4) == REC_FINISHED && rec_check(text, 3) == REC_UNFINISHED);
 }
 
+/* ---- a day ---- */
+
+static int32_t day(const char *input, uint8_t *output, size_t room, size_t *written) {
+    *written = 99;
+    return rec_day((const uint8_t *)input, strlen(input), output, room, written);
+}
+
+/* Document 01's four lines, in as much room as they need, in more, in one byte less and in none; and inputs of no line. */
+static void days(void) {
+    static const char input[] = "D q ('/5'N)\nR q 9\nX q\nR q 9";
+    static const char printed[] = "   1   0  0         0   0          0\n   2   0  1         2   1          5\n   3   0  0         0   0          0\n"
+                                  "   4  10  0         0   0          0\n";
+    static uint8_t output[200];
+    const size_t length = sizeof printed - 1;
+    size_t written;
+    memset(output, MARK, sizeof output);
+    HOLDS(day(input, output, length - 1, &written) == REC_SHORT_OUTPUT && written == 0 && all_bytes(output, sizeof output, MARK));
+    HOLDS(day(input, output, 0, &written) == REC_SHORT_OUTPUT && written == 0 && all_bytes(output, sizeof output, MARK));
+    HOLDS(day(input, NULL, 0, &written) == REC_SHORT_OUTPUT && written == 0);
+    HOLDS(day(input, output, length, &written) == REC_FINISHED && written == length);
+    HOLDS(memcmp(output, printed, length) == 0 && all_bytes(output + length, sizeof output - length, MARK));
+    memset(output, MARK, sizeof output);
+    HOLDS(day(input, output, sizeof output, &written) == REC_FINISHED && written == length);
+    HOLDS(memcmp(output, printed, length) == 0 && all_bytes(output + length, sizeof output - length, MARK));
+    memset(output, MARK, sizeof output);
+    HOLDS(rec_day(NULL, 0, NULL, 0, &written) == REC_FINISHED && written == 0);
+    HOLDS(day("", output, sizeof output, &written) == REC_FINISHED && written == 0 && all_bytes(output, sizeof output, MARK));
+    HOLDS(day("X", output, 37, &written) == REC_FINISHED && written == 37 && memcmp(output, "   1  14  0", 11) == 0);
+    HOLDS(day("\n", output, 37, &written) == REC_FINISHED && written == 37 && memcmp(output, "   1  14  0", 11) == 0);
+}
+
 int main(void) {
     set_guards();
     places_of_a_store();
@@ -225,6 +256,7 @@ int main(void) {
     nulls();
     refusals();
     links();
+    days();
     HOLDS(guarded());
     printf("%d\n", claims);
     return broken > 0;

@@ -1,4 +1,4 @@
-/* Holds the types of rec.h to the layout that the archive has, and the version to its parts. Then prints the word of each number from -1 to 40. */
+/* Holds the types of rec.h to the layout that the archive has, and the version to its parts. Then prints the word of each number from -1 to 60. */
 #include <rec.h>
 #include <string.h>
 #include "holds.h"
@@ -23,6 +23,6 @@ static void version(void) {
 int main(void) {
     layout();
     version();
-    for (int32_t number = -1; number <= 40; number++) printf("%d %s\n", (int)number, rec_word(number));
+    for (int32_t number = -1; number <= 60; number++) printf("%d %s\n", (int)number, rec_word(number));
     return broken > 0;
 }

@@ -114,15 +114,16 @@ pub fn step(
         };
     }
     let number = place.done + 1;
-    let printed = perform(cells, used, vars, number, &line[..kept], paper);
+    let taken = end + 1; // the newline too
+    let printed = perform(cells, used, vars, number, &line[..kept], paper); // the line is whole
     let next = Place {
         done: number,
-        kept: 0,
+        kept: 0, // the next line
     };
     Advance {
         place: next,
-        taken: end + 1,
-        printed,
+        taken,
+        printed, // the line's answer
     }
 }
 

@@ -44,7 +44,7 @@ fn print(input: &[u8], output: &mut [u8]) -> usize
             &mut paper,
         );
         let printed = a.printed;
-        write_bytes(output, count, &paper[..printed]);
+        write_bytes(output, count, &paper[..printed]); // after the answers before
         count += printed;
         at += a.taken;
         place = a.place;

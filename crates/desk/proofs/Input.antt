@@ -60,9 +60,9 @@ module _ (s : List ℕ) (p : Progress Store) (at held : ℕ) (p′ : Progress St
       let size = length-take-le held o (omega (arith, q .few, q .buffers .out)) in
       let fits : x .printed ≤ length (x .paper) = omega (arith, z .little, z .paper, rest-size o held, q .buffers .out) in
       let printed : take (held + x .printed) (take held o ++ (x .paper ++ after)) ≡ take held o ++ take (x .printed) (x .paper) =
-          ap (λ n. take (n + x .printed) (take held o ++ (x .paper ++ after))) (sym size)
-          ∙ take-append-add (take held o) (x .paper ++ after) (x .printed)
-          ∙ ap (λ (b : List ℕ). take held o ++ b) (take-append-le (x .printed) (x .paper) after fits)
+      ap (λ n. take (n + x .printed) (take held o ++ (x .paper ++ after))) (sym size)
+      ∙ take-append-add (take held o) (x .paper ++ after) (x .printed)
+      ∙ ap (λ (b : List ℕ). take held o ++ b) (take-append-le (x .printed) (x .paper) after fits)
       in
       record {
         inside = omega (arith, z .takes .inside, rest-size s at, q .inside);

@@ -167,7 +167,7 @@ fn relay(
     while at < part.len() {
         let a = serve(cells, used, vars, line, p, &part[at..], out, person);
         p = a.place;
-        at += a.taken;
+        at += a.taken; // the next steps of this part
         let written = write_answers(out, a.printed, p.done);
         if !written {
             return Relayed {

@@ -34,20 +34,27 @@ returns-4 c =
 inside : (c : tie.Else4) → c .before .before .before .before .before .before .line-end .result < length (now (c .before .before .before .before .before .before .before .before .before .before .before .before .before .before .args .part))
 inside c = let s = c .before .before .before .before .before .before .before .before .before .before .before .before .before .before in omega (arith, c .if4 .left, c .before .before .before .before .before .before .line-end .ensures, line-end-le (now (s .args .part)))
 
+add-taken : tie.Need-add-taken
+add-taken c = let h = inside (c .before) in search needs
+
+-- from the call of `perform` back to the newline
+abbrev line-found : tie.After-perform-arg → tie.Else4
+line-found c = c .before .before
+
 slice-aggregate-perform : tie.Need-slice-aggregate-perform
 slice-aggregate-perform c =
-    let k = c .before .before .before .before .before .before .before .before in
-    sym (length-take-le (k .keep .result) (k .keep .last .0) (omega (arith, k .keep .ensures .few, c .before .before .before .before .before .before .before .before .before .before .before .before .before .before .before .if1 .left)))
-
-add-t14 : tie.Need-add-t14
-add-t14 c = let h = inside (c .before .before .before .before .before .before .before .before .before) in search needs
+    let e = line-found (c .before .before .before) in
+    let k = e .before .before .before in
+    sym (length-take-le (k .keep .result) (k .keep .last .0) (omega (arith, k .keep .ensures .few, e .before .before .before .before .before .before .before .before .before .before .if1 .left)))
 
 returns-5 : tie.Need-returns-5
 returns-5 c =
+    let e = line-found (c .before .before .before .before .before .before .before) in
     steps _ _ _ _ _
-    (steps-line _ _ _ (c .before .before .before .before .before .before .before .before .before .before .before .before .before .before .before .before .before .before .before .if1 .left) (c .before .before .before .before .before .before .before .before .before .before .before .before .before .before .before .before .before .before .if2 .left) (c .before .before .before .before .before .before .before .before .before .before .before .before .before .before .before .before .if3 .left) _ _ _ (c .before .before .before .before .before .before .before .before .before .before .before .before .before .before .before .line-end .ensures) (c .before .before .before .before .before .before .before .before .before .before .before .before .keep .ensures .bytes) _ _ _ (inside (c .before .before .before .before .before .before .before .before .before)) (c .before .before .perform .ensures))
+    (steps-line _ _ _ (e .before .before .before .before .before .before .before .before .before .before .if1 .left) (e .before .before .before .before .before .before .before .before .before .if2 .left) (e .before .before .before .before .before .before .before .if3 .left) _ _ _ (e .before .before .before .before .before .before .line-end .ensures) (e .before .before .before .keep .ensures .bytes) _ _ _ (inside e)
+    (c .before .before .perform .ensures))
 
 pub step-spec : {M : Type 1} → statement M
 step-spec =
     tie.close (tie.spec returns returns-2 returns-3 (λ c κs. search needs) slice-aggregate-keep (λ c κs. search needs) (λ c. search needs) returns-4
-    (λ c. search needs) (λ c. search needs) slice-aggregate-perform (λ c κs. search needs) add-t14 (λ c. search needs) (λ c. search needs) returns-5)
+    (λ c. search needs) add-taken (λ c. search needs) slice-aggregate-perform (λ c κs. search needs) (λ c. search needs) (λ c. search needs) returns-5)

@@ -57,7 +57,7 @@ finish-requires : tie.Need-finish-requires Inv-loop μ-loop
 finish-requires c κs = search needs
 
 write-answers-requires : tie.Need-write-answers-requires Inv-loop μ-loop
-write-answers-requires c κs = 
+write-answers-requires c κs =
     let l = c .before .before .before .before .before .before .before .before .before .before .before .before .before .before .before .before .before .before .before .loop in
     let f = c .before .before .before in
     let h : f .finish .result .printed ≤ paperBytes = end-goes _ _ _ _ (omega (arith, l .inv .buffers .line)) (omega (arith, l .inv .buffers .out)) (f .finish .ensures) .little in
@@ -94,7 +94,7 @@ loop-less : tie.Need-loop-less Inv-loop μ-loop
 loop-less c = search needs
 
 loop-again : tie.Need-loop-again Inv-loop μ-loop
-loop-again c = 
+loop-again c =
     let l = c .before .before .before .before .before .before .before .before .before .before .before .before .before .before .before .before .before .before .before .before .before .before .before .before .loop in
     record {
       buffers = record { line = omega (arith, c .before .before .before .before .before .before, l .inv .buffers .line); out = omega (arith, c .before .before .before .before, l .inv .buffers .out) };

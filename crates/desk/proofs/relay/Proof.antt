@@ -37,7 +37,7 @@ serve-requires : tie.Need-serve-requires Inv-loop μ-loop
 serve-requires c κs = c .before .before .before .before .before .before .before .loop .inv .buffers
 
 add-at : tie.Need-add-at Inv-loop μ-loop
-add-at c = 
+add-at c =
     let a = c .before .before .before .before .before .before in
     let s = now (c .before .before .before .before .before .before .before .before .before .before .before .before .before .before .before .before .before .before .args .part) in
     let h : c .before .before .before .before .before .before .before .before .before .before .before .before .before .before .loop .at + a .serve .result .taken ≤ length s = omega (arith, a .serve .ensures .inside, rest-size s (c .before .before .before .before .before .before .before .before .before .before .before .before .before .before .loop .at), c .before .before .before .before .before .before .before .before .before .before .before .before .before .before .loop .inv .inside) in
@@ -56,7 +56,7 @@ returns : tie.Need-returns Inv-loop μ-loop
 returns c = relays-some _ _ _ _ _ _ (c .before .before .before .before .before .before .before .before .before .before .before .before .before .before .before .before .before .loop .inv) _ (c .before .before .before .before .before .before .before .before .before .serve .ensures) _ (λ e. absurd (true≢false (sym e ∙ not-true _ (c .if1 .taken))))
 
 loop-less : tie.Need-loop-less Inv-loop μ-loop
-loop-less c = 
+loop-less c =
     let a = c .before .before .before .before .before .before .before .before .before in
     omega (arith, a .serve .ensures .some, rest-size (now (c .before .before .before .before .before .before .before .before .before .before .before .before .before .before .before .before .before .before .before .before .before .args .part)) (c .before .before .before .before .before .before .before .before .before .before .before .before .before .before .before .before .before .loop .at), c .before .before .before .before .before .before .before .before .before .before .before .before .before .before .before .before .loop-test .taken)
 
