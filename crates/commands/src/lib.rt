@@ -45,7 +45,7 @@ fn tell(paper: &mut [u8], line: u32, answer: u32) -> usize
 // `R` letter allowance inputs.
 fn execute(
     cells: &[i32; STORE_CELLS],
-    used: [usize; LETTERS],
+    used: &[usize; LETTERS],
     vars: &mut [i32; VARIABLES],
     line: u32,
     letter: u8,
@@ -54,8 +54,9 @@ fn execute(
     paper: &mut [u8],
 ) -> usize
     requires { ⌜ paperBytes ≤ length (now paper) ⌝ }
-    ensures { λ r. ⌜ performs (storeOf (now (cells .entry)) used (now (vars .exit))) r (now (paper .exit))
-        ≡ printed (now (paper .entry)) (granted storeCall (storeOf (now (cells .entry)) used (now (vars .entry))) line (run letter allowance (now (inputs .entry)))) ⌝ }
+    ensures { λ r. ⌜ performs (storeOf (now (cells .entry)) (now (used .entry)) (now (vars .exit))) r (now (paper .exit))
+        ≡ printed (now (paper .entry)) (granted storeCall (storeOf (now (cells .entry)) (now (used .entry)) (now (vars .entry))) line
+        (run letter allowance (now (inputs .entry)))) ⌝ }
 {
     let mut list = [0i32; HEIGHT];
     let mut output = [0u8; OUTPUT];
@@ -113,10 +114,9 @@ pub fn perform(
             tell(paper, number, answer)
         }
         Command::Run(letter, allowance, count) => {
-            let counts = *used;
             execute(
                 cells,
-                counts,
+                used,
                 vars,
                 number,
                 letter,

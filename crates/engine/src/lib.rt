@@ -87,7 +87,7 @@ impl Store {
         let mut vars = self.vars;
         let report = runner::run(
             &self.cells,
-            used,
+            &used,
             &mut vars,
             letter,
             allowance,

@@ -55,8 +55,7 @@ pub fn define(
     ensures { λ r. ⌜ told (storeOf (now (cells .exit)) (now (used .exit)) vars) r (defines letter (now (text .entry)))
         ≡ storeCall (storeOf (now (cells .entry)) (now (used .entry)) vars) (defines letter (now (text .entry))) ⌝ }
 {
-    let counts = *used;
-    if !validation::sound_store(counts, vars) {
+    if !validation::sound_store(used, vars) {
         return Refusal::BadStore.number();
     }
     if !validation::is_letter(letter) {
@@ -81,15 +80,14 @@ pub fn withdraw(
     ensures { λ r. ⌜ told (storeOf (now (cells .exit)) (now (used .exit)) vars) r (withdraws letter)
         ≡ storeCall (storeOf (now (cells .entry)) (now (used .entry)) vars) (withdraws letter) ⌝ }
 {
-    let counts = *used;
-    if !validation::sound_store(counts, vars) {
+    if !validation::sound_store(used, vars) {
         return Refusal::BadStore.number();
     }
     if !validation::is_letter(letter) {
         return Refusal::NoSuchLetter.number();
     }
     let k = (letter - b'a') as usize;
-    if counts[k] == 0 {
+    if used[k] == 0 {
         return Refusal::NotStanding.number();
     }
     put(cells, used, k, Table::fresh());

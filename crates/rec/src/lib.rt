@@ -89,8 +89,7 @@ pub extern "C" fn rec_lent_run(
         ≡ opened (storeCall (storeOf (now (cells .entry)) (now (used .entry)) (now (vars .entry)))
         (running letter allowance (now (inputs .entry)) (now (list .entry)) (now (output .entry)))) ⌝ }
 {
-    let counts = *used;
-    let report = runner::run(cells, counts, vars, letter, allowance, inputs, list, output);
+    let report = runner::run(cells, used, vars, letter, allowance, inputs, list, output);
     *figures = [
         truth_figure(report.truth),
         report.steps as usize,

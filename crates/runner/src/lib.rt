@@ -24,7 +24,7 @@ fn refused(why: Refusal) -> Report
 // A run of any store. The cells of letter a are those from 250 a on; "for run 10, 11, 12" after 13 and 1.
 pub fn run(
     cells: &[i32; STORE_CELLS],
-    used: [usize; LETTERS],
+    used: &[usize; LETTERS],
     vars: &mut [i32; VARIABLES],
     letter: u8,
     allowance: u32,
@@ -32,11 +32,13 @@ pub fn run(
     list: &mut [i32],
     output: &mut [u8],
 ) -> Report
-    ensures { λ r. ⌜ answered (storeOf (now (cells .entry)) used (now (vars .exit))) r (now (list .exit)) (now (output .exit))
-        ≡ storeCall (storeOf (now (cells .entry)) used (now (vars .entry)))
+    ensures { λ r. ⌜ answered (storeOf (now (cells .entry)) (now (used .entry)) (now (vars .exit))) r (now (list .exit)) (now (output .exit))
+        ≡ storeCall (storeOf (now (cells .entry)) (now (used .entry)) (now (vars .entry)))
         (running letter allowance (now (inputs .entry)) (now (list .entry)) (now (output .entry))) ⌝ }
 {
     let before = *vars;
+    let counts = *used;
+    validation::all_there(counts);
     if !validation::sound_store(used, before) {
         return refused(Refusal::BadStore);
     }
@@ -44,7 +46,7 @@ pub fn run(
         return refused(Refusal::NoSuchLetter);
     }
     let k = (letter - b'a') as usize;
-    if used[k] == 0 {
+    if counts[k] == 0 {
         return refused(Refusal::NotStanding);
     }
     if !validation::lawful(inputs) {
@@ -58,7 +60,7 @@ pub fn run(
     }
     let m = drive(
         cells,
-        &used,
+        &counts,
         inputs,
         k,
         allowance as usize,

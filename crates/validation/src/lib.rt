@@ -1,6 +1,8 @@
 // What refuses a letter (1), inputs (11) and a store (13).
 ghost use mathlib.Core.Path.{_≡_};
 ghost use mathlib.Core.Bool.{_&&_};
+ghost use lib.ListN.{length};
+ghost use Rattle.language.specs.Limits.{maxLetters};
 ghost use Rattle.language.specs.Letters.{isLetter};
 ghost use Rattle.language.specs.Tables.{soundCount, soundUsed};
 ghost use Rattle.language.specs.Values.{isValue, lawful};
@@ -74,11 +76,20 @@ fn sound_used(used: &[usize]) -> bool
     true
 }
 
-// "bad store: a used count neither 0 nor 3 to 250, or a variable outside the values" is not so.
-pub fn sound_store(used: [usize; LETTERS], vars: [i32; VARIABLES]) -> bool
-    ensures { λ r. ⌜ r ≡ soundUsed used && lawful vars ⌝ }
+// All counts are there: what the type of an array says, as a fact about its list. Nothing is done, and no copy is made.
+pub fn all_there(used: [usize; LETTERS]) -> bool
+    ensures { λ _. ⌜ length used ≡ maxLetters ⌝ }
 {
-    if sound_used(&used) {
+    true
+}
+
+// "bad store: a used count neither 0 nor 3 to 250, or a variable outside the values" is not so.
+pub fn sound_store(used: &[usize; LETTERS], vars: [i32; VARIABLES]) -> bool
+    ensures { λ r. ⌜ r ≡ soundUsed (now (used .entry)) && lawful vars ⌝ }
+{
+    let counts = *used;
+    all_there(counts);
+    if sound_used(used) {
         lawful(&vars)
     } else {
         false

@@ -36,7 +36,7 @@ drive-requires : tie.Need-drive-requires
 drive-requires c κs =
     record {
       letter = letter-index _ _ (c .before .before .before .before .before .before .before .before .before .before .is-letter .ensures) (c .before .before .before .before .before .before .before .before .before .if2 .left);
-      letters = search needs;
+      letters = c .before .before .before .before .before .before .before .before .before .before .before .before .before .all-there .ensures;
       counted = sound-most _ _ _ (c .before .before .before .before .before .before .before .before .before .before .before .before .sound-store .ensures) (c .before .before .before .before .before .before .before .before .before .before .before .if1 .left);
       places = omega (arith, c .before .before .before .before .before .if5 .left, c .before .before .before .before .if6 .left);
     }
@@ -46,18 +46,18 @@ returns-7 c =
     let d = c .before .before .before .before .before .before .drive in
     let e = le-ltb 2 (d .result .state) (c .if7 .taken) in
     runs-on _ _ _ _ (c .before .before .before .before .before .before .before .before .before .before .before .before .before .before .before .before .before .before .before .sound-store .ensures) (c .before .before .before .before .before .before .before .before .before .before .before .before .before .before .before .before .before .before .if1 .left) _ (c .before .before .before .before .before .before .before .before .before .before .before .before .before .before .before .before .before .is-letter .ensures) (c .before .before .before .before .before .before .before .before .before .before .before .before .before .before .before .before .if2 .left) (c .before .before .before .before .before .before .before .before .before .before .before .before .before .before .before .if3 .left) _ (c .before .before .before .before .before .before .before .before .before .before .before .before .before .before .lawful .ensures) (c .before .before .before .before .before .before .before .before .before .before .before .before .before .if4 .left) _ _ _ (omega (arith, c .before .before .before .before .before .before .before .before .before .before .before .before .if5 .left, c .before .before .before .before .before .before .before .before .before .before .before .if6 .left))
-    (rw (c .before .before .figures .ensures, e) (rw e at (d .ensures .reply (now (c .before .before .before .before .before .before .before .before .before .before .before .before .before .before .before .before .before .before .before .before .before .before .args .vars)))))
+    (rw (c .before .before .figures .ensures, e) (rw e at (d .ensures .reply (now (c .before .before .before .before .before .before .before .before .before .before .before .before .before .before .before .before .before .before .before .before .before .before .before .before .args .vars)))))
 
 returns-8 : tie.Need-returns-8
 returns-8 c =
     let d = c .before .before .before .before .before .before .drive in
     let e = lt-ltb 2 (d .result .state) (c .if7 .left) in
     runs-on _ _ _ _ (c .before .before .before .before .before .before .before .before .before .before .before .before .before .before .before .before .before .before .before .sound-store .ensures) (c .before .before .before .before .before .before .before .before .before .before .before .before .before .before .before .before .before .before .if1 .left) _ (c .before .before .before .before .before .before .before .before .before .before .before .before .before .before .before .before .before .is-letter .ensures) (c .before .before .before .before .before .before .before .before .before .before .before .before .before .before .before .before .if2 .left) (c .before .before .before .before .before .before .before .before .before .before .before .before .before .before .before .if3 .left) _ (c .before .before .before .before .before .before .before .before .before .before .before .before .before .before .lawful .ensures) (c .before .before .before .before .before .before .before .before .before .before .before .before .before .if4 .left) _ _ _ (omega (arith, c .before .before .before .before .before .before .before .before .before .before .before .before .if5 .left, c .before .before .before .before .before .before .before .before .before .before .before .if6 .left))
-    (rw (c .before .before .figures .ensures, e) (rw e at (d .ensures .reply (now (c .before .before .before .before .before .before .before .before .before .before .before .before .before .before .before .before .before .before .before .before .before .before .args .vars)))))
+    (rw (c .before .before .figures .ensures, e) (rw e at (d .ensures .reply (now (c .before .before .before .before .before .before .before .before .before .before .before .before .before .before .before .before .before .before .before .before .before .before .before .before .args .vars)))))
 
 pub run-spec : {M : Type 1} → statement M
 run-spec =
-    tie.close (tie.spec (λ c κs. search needs) (λ c κs. search needs) returns (λ c κs. search needs) (λ c κs. search needs) returns-2 sub-k
+    tie.close (tie.spec (λ c κs. search needs) (λ c κs. search needs) (λ c κs. search needs) returns (λ c κs. search needs) (λ c κs. search needs) returns-2 sub-k
     (λ c. search needs) (λ c. search needs) array-read-if3 (λ c κs. search needs) returns-3 (λ c κs. search needs) (λ c κs. search needs) returns-4
     (λ c κs. search needs) returns-5 (λ c κs. search needs) returns-6 drive-requires (λ c κs. search needs) (λ c. search needs) (λ c. search needs)
     returns-7 (λ c. search needs) (λ c. search needs) returns-8)
