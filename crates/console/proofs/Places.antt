@@ -8,7 +8,7 @@ use native.Mathlib.Omega.{arith}
 use lib.ListN.{length, getD, take, drop, length-take, drop-of-length-le}
 use lib.Seq.{paste, paste-zero, length-paste, take-paste, take-all, take-take, take-length, length-take-le, take-append-le, take-append-add, drop-cons}
 use lib.Dec.{leb, ltb, eqb}
-use borrow.Author.Tests.{ltb-true, leb-true, leb-false, le-leb, lt-leb, lt-ltb, le-ltb, eq-eqb, ne-eqb}
+use borrow.Author.Tests.{leb-true, leb-false, le-leb, lt-leb, lt-ltb, le-ltb, eq-eqb, ne-eqb}
 use Rattle.language.specs.Bytes.{newlineByte}
 use Rattle.numerals.specs.Numerals.{Written, wrote, written}
 use Rattle.numerals.proofs.Numerals.{written-room}
@@ -18,7 +18,7 @@ use Rattle.commands.proofs.Served.{line-most, performed-room}
 use Rattle.console.specs.Day.{maxLines, Progress, dayFrom}
 use Rattle.console.specs.Steps.{lineEnd, keptBytes, Stepped, lineDone, lineGrown, stepOf, endOf}
 use Rattle.console.specs.Places.{Advanced, advances, onPaper, advanced, Steps, Ends, Keeps}
-use Rattle.console.proofs.Steps.{step-continues, Takes, step-takes, end-continues}
+use Rattle.console.proofs.Steps.{step-cases, step-continues, Takes, step-takes, end-continues}
 
 -- ── the end of a line ───────────────────────────────────────────────────────────────────────────
 
@@ -130,44 +130,24 @@ module _ (p : Progress Store) where
   done-most l n = line-most (p .kept) (suc (p .done)) l
 
   pub step-most : (s : List ℕ) → length (stepOf p s .bytes) ≤ paperBytes
-  unfolding stepOf
-  step-most s = go (ltb (p .done) maxLines) (ltb (lineEnd s) (length s))
-    where
-      l : List ℕ
-      l = take keptBytes (p .line ++ take (lineEnd s) s)
-
-      go : (u v : Bool) → length (cond u (cond v (lineDone p l (suc (lineEnd s))) (lineGrown p l (lineEnd s))) (lineGrown p (p .line) (length s)) .bytes) ≤ paperBytes
-      go true true = done-most l (suc (lineEnd s))
-      go true false = omega arith
-      go false v = omega arith
+  step-most s =
+      step-cases p s (λ x. length (x .bytes) ≤ paperBytes)
+      (λ h g. done-most (take keptBytes (p .line ++ take (lineEnd s) s)) (suc (lineEnd s)))
+      (λ h g. omega arith)
+      (λ h. omega arith)
 
   -- a step prints only with a line
   step-few : (s : List ℕ) → length (stepOf p s .bytes) + paperBytes * p .done ≤ paperBytes * stepOf p s .to .done
-  unfolding stepOf lineDone
-  step-few s = go (ltb (p .done) maxLines) (ltb (lineEnd s) (length s))
-    where
-      l : List ℕ
-      l = take keptBytes (p .line ++ take (lineEnd s) s)
-
-      go : (u v : Bool)
-          → let x = cond u (cond v (lineDone p l (suc (lineEnd s))) (lineGrown p l (lineEnd s))) (lineGrown p (p .line) (length s)) in
-          length (x .bytes) + paperBytes * p .done ≤ paperBytes * x .to .done
-      go true true = few (length (lineDone p l (suc (lineEnd s)) .bytes)) (p .done) (done-most l (suc (lineEnd s)))
-      go true false = omega arith
-      go false v = omega arith
+  unfolding lineDone
+  step-few s =
+      step-cases p s (λ x. length (x .bytes) + paperBytes * p .done ≤ paperBytes * x .to .done)
+      (λ h g. few _ (p .done) (done-most (take keptBytes (p .line ++ take (lineEnd s) s)) (suc (lineEnd s))))
+      (λ h g. omega arith)
+      (λ h. omega arith)
 
   step-lines : (s : List ℕ) → p .done ≤ maxLines → stepOf p s .to .done ≤ maxLines
-  unfolding stepOf lineDone
-  step-lines s h = go (ltb (p .done) maxLines) (ltb (lineEnd s) (length s)) refl
-    where
-      l : List ℕ
-      l = take keptBytes (p .line ++ take (lineEnd s) s)
-
-      go : (u v : Bool) → ltb (p .done) maxLines ≡ u
-          → cond u (cond v (lineDone p l (suc (lineEnd s))) (lineGrown p l (lineEnd s))) (lineGrown p (p .line) (length s)) .to .done ≤ maxLines
-      go true true e = ltb-true (p .done) maxLines e
-      go true false e = h
-      go false v e = h
+  unfolding lineDone
+  step-lines s e = step-cases p s (λ x. x .to .done ≤ maxLines) (λ h g. h) (λ h g. e) (λ h. e)
 
   end-most : length (endOf p .bytes) ≤ paperBytes
   unfolding endOf

@@ -50,26 +50,32 @@ module _ (p : Progress Store) (open-day : p .done < maxLines) where
       (ap (λ ls. session storeCall (p .kept) (suc (p .done)) (take (maxLines - p .done) ls)) (lines-grow s (p .line) rest h)
       ∙ session-cut storeCall rest (p .line ++ s) (maxLines - p .done) (p .kept) (suc (p .done)))
 
-pub step-continues : StepContinues
-unfolding stepOf lineDone
-step-continues p s rest = go (ltb (p .done) maxLines) refl
+-- what holds of each of its cases holds of a step: a line is done, the line so far grows, or the last line is past
+pub step-cases : (p : Progress Store) (s : List ℕ) (P : Stepped → Type 0)
+    → let l = take keptBytes (p .line ++ take (lineEnd s) s) in
+    (p .done < maxLines → lineEnd s < length s → P (lineDone p l (suc (lineEnd s))))
+    → (p .done < maxLines → length s ≤ lineEnd s → P (lineGrown p l (lineEnd s)))
+    → (maxLines ≤ p .done → P (lineGrown p (p .line) (length s)))
+    → P (stepOf p s)
+unfolding stepOf
+step-cases p s P done grown past = go (ltb (p .done) maxLines) refl (ltb (lineEnd s) (length s)) refl
   where
     l : List ℕ
     l = take keptBytes (p .line ++ take (lineEnd s) s)
 
-    inner : (v : Bool) → ltb (lineEnd s) (length s) ≡ v → p .done < maxLines
-        → let x = cond v (lineDone p l (suc (lineEnd s))) (lineGrown p l (lineEnd s)) in
-        day p (s ++ rest) ≡ x .bytes ++ day (x .to) (drop (x .taken) s ++ rest)
-    inner true e h = newline-step p h s rest (ltb-true (lineEnd s) (length s) e)
-    inner false e h = other-step p h s rest (ltb-false (lineEnd s) (length s) e)
+    go : (u : Bool) → ltb (p .done) maxLines ≡ u → (v : Bool) → ltb (lineEnd s) (length s) ≡ v
+        → P (cond u (cond v (lineDone p l (suc (lineEnd s))) (lineGrown p l (lineEnd s))) (lineGrown p (p .line) (length s)))
+    go true e true f = done (ltb-true (p .done) maxLines e) (ltb-true (lineEnd s) (length s) f)
+    go true e false f = grown (ltb-true (p .done) maxLines e) (ltb-false (lineEnd s) (length s) f)
+    go false e v f = past (ltb-false (p .done) maxLines e)
 
-    go : (u : Bool) → ltb (p .done) maxLines ≡ u
-        → let x = cond u (cond (ltb (lineEnd s) (length s)) (lineDone p l (suc (lineEnd s))) (lineGrown p l (lineEnd s))) (lineGrown p (p .line) (length s)) in
-        day p (s ++ rest) ≡ x .bytes ++ day (x .to) (drop (x .taken) s ++ rest)
-    go true e = inner (ltb (lineEnd s) (length s)) refl (ltb-true (p .done) maxLines e)
-    go false e =
-        let h = ltb-false (p .done) maxLines e in
-        day-over storeCall p (s ++ rest) h ∙ sym (day-over storeCall p (drop (length s) s ++ rest) h)
+pub step-continues : StepContinues
+unfolding lineDone
+step-continues p s rest =
+    step-cases p s (λ x. day p (s ++ rest) ≡ x .bytes ++ day (x .to) (drop (x .taken) s ++ rest))
+    (λ h g. newline-step p h s rest g)
+    (λ h g. other-step p h s rest g)
+    (λ h. day-over storeCall p (s ++ rest) h ∙ sym (day-over storeCall p (drop (length s) s ++ rest) h))
 
 -- what a step takes: at least a byte where there is one, and no more than there are
 pub record Takes (s : List ℕ) (n : ℕ) : Type 0 where
@@ -77,20 +83,12 @@ pub record Takes (s : List ℕ) (n : ℕ) : Type 0 where
   pub inside : n ≤ length s
 
 pub step-takes : (p : Progress Store) (s : List ℕ) → Takes s (stepOf p s .taken)
-unfolding stepOf lineDone
-step-takes p s = go (ltb (p .done) maxLines)
-  where
-    l : List ℕ
-    l = take keptBytes (p .line ++ take (lineEnd s) s)
-
-    inner : (v : Bool) → ltb (lineEnd s) (length s) ≡ v → Takes s (cond v (lineDone p l (suc (lineEnd s))) (lineGrown p l (lineEnd s)) .taken)
-    inner true e = let h = ltb-true (lineEnd s) (length s) e in record { some = omega arith; inside = omega arith }
-    inner false e = let h = ltb-false (lineEnd s) (length s) e in record { some = omega arith; inside = line-end-le s }
-
-    go : (u : Bool)
-        → Takes s (cond u (cond (ltb (lineEnd s) (length s)) (lineDone p l (suc (lineEnd s))) (lineGrown p l (lineEnd s))) (lineGrown p (p .line) (length s)) .taken)
-    go true = inner (ltb (lineEnd s) (length s)) refl
-    go false = record { some = omega arith; inside = omega arith }
+unfolding lineDone
+step-takes p s =
+    step-cases p s (λ x. Takes s (x .taken))
+    (λ h g. record { some = omega arith; inside = omega arith })
+    (λ h g. record { some = omega arith; inside = line-end-le s })
+    (λ h. record { some = omega arith; inside = omega arith })
 
 -- ── the end ─────────────────────────────────────────────────────────────────────────────────────
 

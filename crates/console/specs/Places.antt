@@ -9,12 +9,17 @@ use lib.Dec.{leb}
 use Rattle.book.specs.Store.{Store, storeCall}
 use Rattle.commands.specs.Served.{paperBytes}
 use Rattle.console.specs.declared.Place.{Place}
+use Rattle.console.specs.declared.Advance.{Advance}
 use Rattle.console.specs.Day.{Progress, dayFrom}
 use Rattle.console.specs.Steps.{Stepped, keptBytes, stepOf, endOf}
 
 -- where the day is: its store, its place in the input, and the buffer l at whose start the line so far stands
 abbrev pub progress : Store → Place → List ℕ → Progress Store
 progress st w l = record { kept = st; done = w .done; line = take (w .kept) l }
+
+-- n bytes are taken and none is printed
+abbrev pub silent : Place → ℕ → Advance
+silent w n = record { place = w; taken = n; printed = 0 }
 
 -- What a step came to over the paper: where the day is then, how many bytes it took and printed, and the paper, at whose start they stand.
 pub record Advanced : Type 0 where

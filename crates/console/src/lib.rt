@@ -12,7 +12,7 @@ ghost use Prim.Native.Nat.{_≤_, min};
 ghost use lib.ListN.{length};
 ghost use Rattle.book.specs.Store.{storeOf};
 ghost use Rattle.console.specs.Steps.{lineEnd, keptBytes};
-ghost use Rattle.console.specs.Places.{progress, advances, Keeps, Steps, Ends};
+ghost use Rattle.console.specs.Places.{progress, silent, advances, Keeps, Steps, Ends};
 
 // "Lines past 9,999 are not read."
 pub const LINES: u32 = 9999;
@@ -63,6 +63,17 @@ fn keep(line: &mut [u8], kept: usize, bytes: &[u8]) -> usize
     write_bytes(line, at, &bytes[..n])
 }
 
+// So many bytes are taken, and none is printed.
+fn silent(place: Place, taken: usize) -> Advance
+    ensures { λ r. ⌜ r ≡ silent place taken ⌝ }
+{
+    Advance {
+        place,
+        taken,
+        printed: 0,
+    }
+}
+
 // A step over the next part of the input: to the end of the line, which is obeyed, or to the end of the part. After the last line all is taken and
 // nothing done. Where the line's buffer has less than 301 bytes, or the paper no room for any line, nothing is done and nothing taken.
 pub fn step(
@@ -80,25 +91,13 @@ pub fn step(
         (r .taken) (r .printed) (now (paper .exit))) ⌝ }
 {
     if line.len() < KEPT {
-        return Advance {
-            place,
-            taken: 0,
-            printed: 0,
-        };
+        return silent(place, 0);
     }
     if paper.len() < PAPER {
-        return Advance {
-            place,
-            taken: 0,
-            printed: 0,
-        };
+        return silent(place, 0);
     }
     if LINES <= place.done {
-        return Advance {
-            place,
-            taken: part.len(),
-            printed: 0,
-        };
+        return silent(place, part.len());
     }
     let end = line_end(part);
     let kept = keep(line, place.kept, &part[..end]);
@@ -107,11 +106,7 @@ pub fn step(
             done: place.done,
             kept,
         };
-        return Advance {
-            place: grown,
-            taken: end,
-            printed: 0,
-        };
+        return silent(grown, end);
     }
     let number = place.done + 1;
     let taken = end + 1; // the newline too
@@ -122,7 +117,7 @@ pub fn step(
     };
     Advance {
         place: next,
-        taken,
+        taken, // once
         printed, // the line's answer
     }
 }
@@ -142,32 +137,16 @@ pub fn finish(
         (r .taken) (r .printed) (now (paper .exit))) ⌝ }
 {
     if line.len() < KEPT {
-        return Advance {
-            place,
-            taken: 0,
-            printed: 0,
-        };
+        return silent(place, 0);
     }
     if paper.len() < PAPER {
-        return Advance {
-            place,
-            taken: 0,
-            printed: 0,
-        };
+        return silent(place, 0);
     }
     if LINES <= place.done {
-        return Advance {
-            place,
-            taken: 0,
-            printed: 0,
-        };
+        return silent(place, 0);
     }
     if place.kept == 0 {
-        return Advance {
-            place,
-            taken: 0,
-            printed: 0,
-        };
+        return silent(place, 0);
     }
     let kept = least(place.kept, KEPT);
     let number = place.done + 1;

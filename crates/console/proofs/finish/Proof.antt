@@ -10,16 +10,20 @@ use Rattle.console.proofs.finish.Statement.{statement}
 use Rattle.console.proofs.finish.Tie as tie
 
 returns : tie.Need-returns
-returns c = ends _ _ _ _ (short-line _ _ _ _ (c .if1 .taken))
+returns c = rw (c .silent .ensures) (ends _ _ _ _ (short-line _ _ _ _ (c .before .if1 .taken)))
 
 returns-2 : tie.Need-returns-2
-returns-2 c = ends _ _ _ _ (short-paper _ _ _ _ (c .if2 .taken))
+returns-2 c = rw (c .silent2 .ensures) (ends _ _ _ _ (short-paper _ _ _ _ (c .before .if2 .taken)))
 
 returns-3 : tie.Need-returns-3
-returns-3 c = ends _ _ _ _ (ends-past _ _ _ (c .before .before .before .if1 .left) (c .before .before .if2 .left) (c .if3 .taken))
+returns-3 c = rw (c .silent3 .ensures) (ends _ _ _ _ (ends-past _ _ _ (c .before .before .before .before .if1 .left) (c .before .before .before .if2 .left) (c .before .if3 .taken)))
 
 returns-4 : tie.Need-returns-4
-returns-4 c = ends _ _ _ _ (ends-empty _ _ _ (c .before .before .before .before .before .if1 .left) (c .before .before .before .before .if2 .left) (omega (arith, c .if4 .taken, length-take (c .before .before .before .before .before .before .before .before .args .place .kept) (now (c .before .before .before .before .before .before .before .before .args .line)))) (c .before .before .if3 .left))
+returns-4 c =
+    let s = c .before .before .before .before .before .before .before .before .before in
+    rw (c .silent4 .ensures)
+    (ends _ _ _ _
+    (ends-empty _ _ _ (c .before .before .before .before .before .before .if1 .left) (c .before .before .before .before .before .if2 .left) (omega (arith, c .before .if4 .taken, length-take (s .args .place .kept) (now (s .args .line)))) (c .before .before .before .if3 .left)))
 
 slice-aggregate-perform : tie.Need-slice-aggregate-perform
 slice-aggregate-perform c =
@@ -33,5 +37,5 @@ returns-5 c =
 
 pub finish-spec : {M : Type 1} → statement M
 finish-spec =
-    tie.close (tie.spec returns returns-2 returns-3 returns-4 (λ c κs. search needs) (λ c. search needs) slice-aggregate-perform (λ c κs. search needs)
-    (λ c. search needs) returns-5)
+    tie.close (tie.spec (λ c κs. search needs) returns (λ c κs. search needs) returns-2 (λ c κs. search needs) returns-3 (λ c κs. search needs) returns-4
+    (λ c κs. search needs) (λ c. search needs) slice-aggregate-perform (λ c κs. search needs) (λ c. search needs) returns-5)

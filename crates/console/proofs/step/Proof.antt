@@ -12,13 +12,13 @@ use Rattle.console.proofs.step.Statement.{statement}
 use Rattle.console.proofs.step.Tie as tie
 
 returns : tie.Need-returns
-returns c = steps _ _ _ _ _ (short-line _ _ _ _ (c .if1 .taken))
+returns c = rw (c .silent .ensures) (steps _ _ _ _ _ (short-line _ _ _ _ (c .before .if1 .taken)))
 
 returns-2 : tie.Need-returns-2
-returns-2 c = steps _ _ _ _ _ (short-paper _ _ _ _ (c .if2 .taken))
+returns-2 c = rw (c .silent2 .ensures) (steps _ _ _ _ _ (short-paper _ _ _ _ (c .before .if2 .taken)))
 
 returns-3 : tie.Need-returns-3
-returns-3 c = steps _ _ _ _ _ (steps-past _ _ _ (c .before .before .before .if1 .left) (c .before .before .if2 .left) _ (c .if3 .taken))
+returns-3 c = rw (c .silent3 .ensures) (steps _ _ _ _ _ (steps-past _ _ _ (c .before .before .before .before .if1 .left) (c .before .before .before .if2 .left) _ (c .before .if3 .taken)))
 
 slice-aggregate-keep : tie.Need-slice-aggregate-keep
 slice-aggregate-keep c =
@@ -27,8 +27,9 @@ slice-aggregate-keep c =
 
 returns-4 : tie.Need-returns-4
 returns-4 c =
-    steps _ _ _ _ _
-    (steps-grown _ _ _ (c .before .before .before .before .before .before .before .before .before .before .if1 .left) (c .before .before .before .before .before .before .before .before .before .if2 .left) (c .before .before .before .before .before .before .before .if3 .left) _ _ _ (c .before .before .before .before .before .before .line-end .ensures) (c .before .before .before .keep .ensures .bytes) (c .if4 .taken))
+    rw (c .silent4 .ensures)
+    (steps _ _ _ _ _
+    (steps-grown _ _ _ (c .before .before .before .before .before .before .before .before .before .before .before .if1 .left) (c .before .before .before .before .before .before .before .before .before .before .if2 .left) (c .before .before .before .before .before .before .before .before .if3 .left) _ _ _ (c .before .before .before .before .before .before .before .line-end .ensures) (c .before .before .before .before .keep .ensures .bytes) (c .before .if4 .taken)))
 
 -- the newline is within the part
 inside : (c : tie.Else4) → c .before .before .before .before .before .before .line-end .result < length (now (c .before .before .before .before .before .before .before .before .before .before .before .before .before .before .args .part))
@@ -56,5 +57,6 @@ returns-5 c =
 
 pub step-spec : {M : Type 1} → statement M
 step-spec =
-    tie.close (tie.spec returns returns-2 returns-3 (λ c κs. search needs) slice-aggregate-keep (λ c κs. search needs) (λ c. search needs) returns-4
-    (λ c. search needs) add-taken (λ c. search needs) slice-aggregate-perform (λ c κs. search needs) (λ c. search needs) (λ c. search needs) returns-5)
+    tie.close (tie.spec (λ c κs. search needs) returns (λ c κs. search needs) returns-2 (λ c κs. search needs) returns-3 (λ c κs. search needs)
+    slice-aggregate-keep (λ c κs. search needs) (λ c κs. search needs) (λ c. search needs) returns-4 (λ c. search needs) add-taken (λ c. search needs)
+    slice-aggregate-perform (λ c κs. search needs) (λ c. search needs) (λ c. search needs) returns-5)
