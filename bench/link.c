@@ -1,9 +1,10 @@
 /*
- * The proved linker against a linker in plain C, in one run: both give the same numbers, counts and cells on many texts, and then the time of each on
- * short, typical and longest texts. bench/places builds and runs it.
+ * The proved linker and fair copy against plain C's, in one run: both give the same numbers, counts, cells and copies on many texts, and then the time of
+ * each on short, typical and longest texts, and of a copy beside a link of the same text. bench/places builds and runs it.
  */
 #define _POSIX_C_SOURCE 199309L
 #include "measure.h"
+#include "plain_copy.h"
 #include "plain_linker.h"
 #include "rec.h"
 #include <stdio.h>
@@ -20,7 +21,7 @@ static uint32_t below(uint32_t n) {
     return (uint32_t)(state >> 32) % n;
 }
 
-static long compared, accepted;
+static long compared, accepted, copied;
 
 /* Both linkers on one text. Their answers, counts and every cell must be equal. */
 static int same(const uint8_t *text, size_t length) {
@@ -34,6 +35,20 @@ static int same(const uint8_t *text, size_t length) {
     accepted += x == 0;
     if (x == y && rec_check(text, length) == x && m == n && memcmp(a, b, sizeof a) == 0) return 1;
     printf("differ: %d and %d on %.*s\n", (int)x, (int)y, (int)length, (const char *)text);
+    return 0;
+}
+
+/* Both fair copies of one text, on papers that often are too short. Their answers, lengths and every byte must be equal. */
+static int same_copy(const uint8_t *text, size_t length) {
+    uint8_t a[REC_TEXT + 2], b[REC_TEXT + 2];
+    memset(a, 0x55, sizeof a);
+    memset(b, 0x55, sizeof b);
+    size_t room = below((uint32_t)sizeof a + 1), m, n;
+    int32_t x = rec_fair_copy(text, length, a, room, &m);
+    int32_t y = plain_fair_copy(text, length, b, room, &n);
+    copied += x == 0;
+    if (x == y && m == n && memcmp(a, b, sizeof a) == 0) return 1;
+    printf("copies differ: %d and %d on %.*s\n", (int)x, (int)y, (int)length, (const char *)text);
     return 0;
 }
 
@@ -79,24 +94,47 @@ static double measure(linker *link, const uint8_t *text, size_t length) {
     return best;
 }
 
+typedef int32_t copier(const uint8_t *, size_t, uint8_t *, size_t, size_t *);
+
+static double measure_copy(copier *copy, const uint8_t *text, size_t length) {
+    static uint8_t paper[REC_TEXT];
+    static size_t written;
+    static volatile int32_t sink;
+    double best = 1e9;
+    long times = length < 16 ? 400000 : 100000;
+    for (int r = 0; r < ROUNDS; r++) {
+        double start = seconds();
+        for (long i = 0; i < times; i++) sink = copy(text, length, paper, REC_TEXT, &written);
+        double each = (seconds() - start) / (double)times * 1e9;
+        if (each < best) best = each;
+    }
+    (void)sink;
+    return best;
+}
+
 static void row(const char *name, const char *text, size_t length) {
     double proved = measure(rec_link, (const uint8_t *)text, length);
     double plain = measure(plain_link, (const uint8_t *)text, length);
-    printf("%-26s %4zu bytes  proved %7.0f ns  plain %7.0f ns  ratio %.2f\n", name, length, proved, plain, proved / plain);
+    printf("%-38s %4zu bytes  proved %7.0f ns  plain %7.0f ns  ratio %.2f\n", name, length, proved, plain, proved / plain);
+    double copy = measure_copy(rec_fair_copy, (const uint8_t *)text, length);
+    plain = measure_copy(plain_fair_copy, (const uint8_t *)text, length);
+    printf("copy of %-30s %4zu bytes  proved %7.0f ns  plain %7.0f ns  ratio %.2f\n", name, length, copy, plain, copy / plain);
+    printf("copy by link, %-24s %4zu bytes  copy %7.0f ns  link %7.0f ns  ratio %.2f\n", name, length, copy, proved, copy / proved);
 }
 
 int main(void) {
     uint8_t text[2 * LONGEST];
+    size_t length;
     for (int i = 0; i < 300000; i++)
-        if (!same(text, some_text(text))) return 1;
+        if (length = some_text(text), !same(text, length) || !same_copy(text, length)) return 1;
     for (int i = 0; i < 300000; i++) {
-        size_t length = below(LONGEST);
+        length = below(LONGEST);
         for (size_t j = 0; j < length; j++) text[j] = below(4) ? (uint8_t)"(N;):,.+F1$1'/ \"a"[below(17)] : (uint8_t)below(256);
-        if (!same(text, length)) return 1;
+        if (!same(text, length) || !same_copy(text, length)) return 1;
     }
-    printf("%ld texts, %ld of them accepted: the same numbers, counts and cells\n", compared, accepted);
+    printf("%ld texts, %ld of them accepted and %ld copied: the same numbers, counts, cells and copies\n", compared, accepted, copied);
 
-    static char worst[4][257];
+    static char worst[5][257];
     memset(worst[0], 'N', 125);
     worst[0][0] = '(';
     worst[0][124] = ')';
@@ -117,6 +155,9 @@ int main(void) {
     memset(worst[3], ' ', 256);
     worst[3][0] = '(';
     worst[3][255] = ')';
+    strcpy(worst[4], "(");
+    for (int i = 0; i < 21; i++) strcat(worst[4], "'/-00012345'");
+    strcat(worst[4], ")");
     const char *loop = "('/0'($5$'/1'+:;);)";
     row("()", "()", 2);
     row("(N;)", "(N;)", 4);
@@ -127,5 +168,6 @@ int main(void) {
     row("247 operators", worst[1], 249);
     row("nested, 256 bytes", worst[2], 256);
     row("254 blanks", worst[3], 256);
+    row("21 constants", worst[4], strlen(worst[4]));
     return 0;
 }

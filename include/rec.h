@@ -2,13 +2,14 @@
  * The REC engine for C and C++. Link with librec.a (pkg-config rec). docs/C.md is the guide, with a complete program.
  *
  * Every function returns for any text, letter, store contents, inputs, allowance and buffer contents. A function that answers with a number answers 0 or
- * a number of enum rec_number. A refused call (1 to 14, 50) leaves the store, the list, the output and the cells as they were, and its figures are 0.
+ * a number of enum rec_number. A refused call (1 to 14, 30, 50) leaves the store, the list, the output, the cells and the paper as they were, and its
+ * figures are 0.
  *
  * What the caller sees to, and nothing checks:
  *   pointers    Each points to as many elements as its type or the length after it says, aligned for their type. Where the length is 0 it may be null.
  *               store, report, used and written are never null.
- *   overlap     What a call may write (the store, the list, the output, the report, the cells, *used, *written) overlaps nothing else that the call is
- *               passed. What it only reads (text, inputs, input) may overlap.
+ *   overlap     What a call may write (the store, the list, the output, the report, the cells, the paper, *used, *written) overlaps nothing else that
+ *               the call is passed. What it only reads (text, inputs, input) may overlap.
  *   threads     The library has no data of its own. Any thread may call it; calls at the same time use different stores and buffers.
  *   stack       Below 16 KiB for rec_run and 64 KiB for each other function (docs/C.md has the measured table).
  *
@@ -26,8 +27,8 @@ extern "C" {
 
 /* The version of this header and of the archive beside it. */
 #define REC_VERSION_MAJOR 1
-#define REC_VERSION_MINOR 1
-#define REC_VERSION "1.1"
+#define REC_VERSION_MINOR 2
+#define REC_VERSION "1.2"
 
 /* Document 01's limits. */
 #define REC_TEXT 256            /* bytes of a text */
@@ -40,7 +41,9 @@ extern "C" {
 #define REC_CALLS 100           /* calls within calls */
 #define REC_VALUE_MAX 999999999 /* values lie from -REC_VALUE_MAX to REC_VALUE_MAX */
 
-/* Document 01's numbers, and one of this library's own. 1 to 14 refuse a call, 20 to 29 end a run, 50 refuses a day. */
+/*
+ * Document 01's and 02's numbers, and one of this library's own. 1 to 14 refuse a call, 20 to 29 end a run, 30 refuses a fair copy, 50 refuses a day.
+ */
 enum rec_number {
     REC_FINISHED = 0,       /* a run that finished; any other call accepted */
     REC_NO_SUCH_LETTER = 1, /* not `a` to `z` */
@@ -68,6 +71,7 @@ enum rec_number {
     REC_DEEP_CALLS = 28,    /* a 101st nested call */
     REC_DAMAGED = 29,       /* the due cell, or a cell of the mark there, breaks the form that a table's cells have (document 01 lists the clauses); a
                                table that keeps the form is obeyed, whether or not a text links to it */
+    REC_SHORT_PAPER = 30,   /* rec_fair_copy: the copy does not fit */
     REC_SHORT_OUTPUT = 50   /* rec_day: what the day prints does not all fit */
 };
 
@@ -99,6 +103,7 @@ static inline const char *rec_word(int32_t number) {
     case REC_NO_TEXT: return "no text";
     case REC_DEEP_CALLS: return "deep calls";
     case REC_DAMAGED: return "damaged";
+    case REC_SHORT_PAPER: return "short paper";
     case REC_SHORT_OUTPUT: return "short output";
     default: return "?";
     }
@@ -172,6 +177,15 @@ int32_t rec_check(const uint8_t *text, size_t length);
  * `room` has; cells past the 250th stay as they were. Where it is refused, *used is 0 and every cell stays as it was.
  */
 int32_t rec_link(const uint8_t *text, size_t length, int32_t *cells, size_t room, size_t *used);
+
+/*
+ * The text's fair copy: the same marks in the same order, with no comments, no blanks or newlines outside prints, `;` for `,` and `:` for `.`, every
+ * constant and counter without leading zeros, and minus zero as 0. It links to the very table of the text, a fair copy's fair copy is itself, and it is
+ * never longer than the text: `length` bytes of paper are always enough. 0, and *written bytes at the start of the paper, whose other bytes stay as they
+ * were. Where the text is refused, the number of its first fault, 2 to 9, and where the copy does not all fit, REC_SHORT_PAPER: *written is 0 and the
+ * paper stays as it was.
+ */
+int32_t rec_fair_copy(const uint8_t *text, size_t length, uint8_t *paper, size_t room, size_t *written);
 
 /* ---- a day at the desk ---- */
 

@@ -75,6 +75,7 @@ static uint32_t allowance = 100000;
 static int32_t inputs[REC_LIST], list[REC_LIST];
 static size_t places = REC_LIST;
 static uint8_t output[PAPER];
+static size_t room = PAPER; /* of a fair copy */
 static int32_t number; /* of the last call */
 static rec_report report;
 
@@ -88,6 +89,12 @@ static void link_text(void)
     static int32_t cells[REC_CELLS];
     static size_t used;
     number = rec_link(text.bytes, text.length, cells, REC_CELLS, &used);
+}
+
+static void fair_copy(void)
+{
+    static size_t written;
+    number = rec_fair_copy(text.bytes, text.length, output, room, &written);
 }
 
 static void run(void)
@@ -137,9 +144,10 @@ static struct function {
     const char *name;
     void (*call)(void);
     size_t need;
-} functions[] = {{"rec_fresh", fresh, 0},   {"rec_check", check, 0},       {"rec_link", link_text, 0},
-                 {"rec_define", define, 0}, {"rec_withdraw", withdraw, 0}, {"rec_run", run, 0},
-                 {"rec_day", day, 0}};
+} functions[] = {{"rec_fresh", fresh, 0},    {"rec_check", check, 0},
+                 {"rec_link", link_text, 0}, {"rec_fair_copy", fair_copy, 0},
+                 {"rec_define", define, 0},  {"rec_withdraw", withdraw, 0},
+                 {"rec_run", run, 0},        {"rec_day", day, 0}};
 enum { FUNCTIONS = sizeof functions / sizeof functions[0] };
 
 static void try(void (*call)(void))
@@ -194,13 +202,30 @@ static void known_texts(void)
                  {REC_UNFINISHED, "(((((((((", "(N:;)", 47, "))))))))"},
                  {REC_TABLE_FULL, "(", "N", 124, ")"},
                  {REC_MANY_COUNTERS, "(", "$1$", 17, ")"}};
-    static void (*const readers[])(void) = {check, link_text, define};
+    static void (*const readers[])(void) = {check, link_text, fair_copy, define};
     for (size_t i = 0; i < sizeof cases / sizeof cases[0]; i++)
-        for (size_t j = 0; j < 3; j++) {
+        for (size_t j = 0; j < sizeof readers / sizeof readers[0]; j++) {
             text_of(cases[i].words, cases[i].filling, cases[i].times, cases[i].end);
             rec_fresh(&store);
             expect(readers[j], cases[i].number);
         }
+}
+
+/* Fair copies: long, on a paper that they fill and on shorter ones; of much that goes. */
+static void fair_copies(void)
+{
+    text_of("(", "'/-99999999'", 21, "AA)");
+    room = REC_TEXT;
+    expect(fair_copy, 0);
+    room = REC_TEXT - 1;
+    expect(fair_copy, REC_SHORT_PAPER);
+    room = 0;
+    expect(fair_copy, REC_SHORT_PAPER);
+    room = PAPER;
+    text_of("( \"c\"", " '/-000000009' ,", 14, "''a  b'\n$0009$.'/-00')");
+    expect(fair_copy, 0);
+    text_of("(((((((((", "(N.,)", 47, ")))))))))");
+    expect(fair_copy, 0);
 }
 
 /* Random texts of every kind through every function. */
@@ -212,6 +237,7 @@ static void random_texts(void)
     for (int i = 0; i < RANDOM_TEXTS; i++) {
         text_hard(&r, (const uint8_t *)"abcdef", 6, &text);
         letter = (uint8_t)('a' + below(&r, 6));
+        room = i % 2 == 0 ? PAPER : text.length / 2;
         for (size_t j = 1; j < FUNCTIONS; j++)
             if (functions[j].call != withdraw || chance(&r, 20))
                 try(functions[j].call);
@@ -294,6 +320,7 @@ int main(void)
     memset(&store, 0xff, sizeof store);
     try(fresh);
     known_texts();
+    fair_copies();
     refusals();
     deep_run();
     damaged_run();

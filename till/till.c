@@ -1,4 +1,7 @@
-/* A till: checks texts, and shows where the first fault of a refused text is. `usage` says how it is called, and its exit status. */
+/*
+ * A till: checks texts, and shows where the first fault of a refused text is; or prints the fair copies of texts. `usage` says how it is called, and its
+ * exit status.
+ */
 #include "rec.h"
 #include <errno.h>
 #include <stdio.h>
@@ -16,6 +19,11 @@ static const char usage[] =
     "                     text in bytes, the text, a newline\n"
     "    till -h          prints this\n"
     "\n"
+    "With -f before the rest (-f [FILE], -f -t FILE.., -f -r [FILE]) it prints instead a line with\n"
+    "each text's fair copy: the same marks, with no comments, stray blanks or leading zeros. Desk\n"
+    "lines stay desk lines: `D` and letter before the copy, `X` and `R` lines as they stand. A\n"
+    "refused text has no copy; what is said above of it goes to standard error.\n"
+    "\n"
     "Without FILE it reads standard input. Exit status: 0 every text links; 1 a text is refused;\n"
     "2 a file cannot be read, records break their form, the output cannot be written, wrong use.\n";
 
@@ -23,6 +31,9 @@ enum { LINKED, REFUSED, FAILED };
 
 /* The exit status: the worst of what has happened. */
 static int status = LINKED;
+
+/* Whether fair copies are printed, in place of numbers. */
+static int fair = 0;
 
 static void worsen(int to) {
     if (status < to) status = to;
@@ -63,11 +74,11 @@ static size_t newlines(const uint8_t *text, size_t length) {
 static int printable(uint8_t byte) { return byte >= 32 && byte <= 126; }
 
 /* Names a byte that cannot be seen. */
-static void name_byte(uint8_t byte) {
-    if (byte == '\t') printf(" (a Tab)");
-    else if (byte == '\n') printf(" (a newline)");
-    else if (byte == '\r') printf(" (a carriage return)");
-    else if (!printable(byte)) printf(" (byte %d)", byte);
+static void name_byte(FILE *out, uint8_t byte) {
+    if (byte == '\t') fputs(" (a Tab)", out);
+    else if (byte == '\n') fputs(" (a newline)", out);
+    else if (byte == '\r') fputs(" (a carriage return)", out);
+    else if (!printable(byte)) fprintf(out, " (byte %d)", byte);
 }
 
 /* ---- the text with a mark under a byte ---- */
@@ -94,38 +105,62 @@ static struct view view_of(const uint8_t *text, size_t length, size_t at) {
     return v;
 }
 
-static void show(const uint8_t *text, size_t length, size_t at) {
+static void show(FILE *out, const uint8_t *text, size_t length, size_t at) {
     struct view v = view_of(text, length, at);
     const char *cut = v.first > v.from ? "..." : "";
-    printf("%*s%s", MARGIN, "", cut);
-    for (size_t i = v.first; i < v.last; i++) putchar(printable(text[i]) ? text[i] : '?');
-    puts(v.last < v.to ? "..." : "");
-    printf("%*s^\n", (int)(MARGIN + strlen(cut) + (at - v.first)), "");
+    fprintf(out, "%*s%s", MARGIN, "", cut);
+    for (size_t i = v.first; i < v.last; i++) putc(printable(text[i]) ? text[i] : '?', out);
+    fputs(v.last < v.to ? "...\n" : "\n", out);
+    fprintf(out, "%*s^\n", (int)(MARGIN + strlen(cut) + (at - v.first)), "");
 }
 
 /* Where a refused text is at fault: at a byte, or at its end. */
-static void show_fault(const uint8_t *text, size_t length, int32_t number) {
+static void show_fault(FILE *out, const uint8_t *text, size_t length, int32_t number) {
     int of_byte = number != REC_UNFINISHED;
     size_t end = trimmed_length(text, length);
     size_t at = of_byte ? refused_length(text, length, number) - 1 : end;
-    if (of_byte) printf(" at byte %zu", at + 1);
-    else printf(" at the end");
-    if (newlines(text, end) > 0) printf(", line %zu", newlines(text, at) + 1);
-    if (of_byte) name_byte(text[at]);
-    putchar('\n');
-    show(text, length, at);
+    if (of_byte) fprintf(out, " at byte %zu", at + 1);
+    else fputs(" at the end", out);
+    if (newlines(text, end) > 0) fprintf(out, ", line %zu", newlines(text, at) + 1);
+    if (of_byte) name_byte(out, text[at]);
+    putc('\n', out);
+    show(out, text, length, at);
+}
+
+/* ---- a text ---- */
+
+/* Number, word and fault of a refused text. */
+static void report(FILE *out, size_t place, const uint8_t *text, size_t length, int32_t number) {
+    fprintf(out, "%4zu %3d %s", place, (int)number, rec_word(number));
+    show_fault(out, text, length, number);
+    worsen(REFUSED);
 }
 
 static void check(size_t place, const uint8_t *text, size_t length) {
     int32_t number = rec_check(text, length);
-    int links = number == REC_FINISHED;
-    printf("%4zu %3d %s", place, (int)number, links ? "linked" : rec_word(number));
-    if (links) {
+    if (number == REC_FINISHED) printf("%4zu %3d linked\n", place, (int)number);
+    else report(stdout, place, text, length, number);
+}
+
+/* A line with the text's fair copy, after the `lead` bytes before the text. The paper is always enough: no copy is longer than its text. */
+static void copy(size_t place, const uint8_t *text, size_t length, size_t lead) {
+    uint8_t paper[REC_TEXT];
+    size_t written;
+    int32_t number = rec_fair_copy(text, length, paper, sizeof paper, &written);
+    if (number == REC_FINISHED) {
+        fwrite(text - lead, 1, lead, stdout);
+        fwrite(paper, 1, written, stdout);
         putchar('\n');
-        return;
+    } else {
+        fflush(stdout);
+        report(stderr, place, text, length, number);
     }
-    worsen(REFUSED);
-    show_fault(text, length, number);
+}
+
+/* What is done with each text; `lead` bytes of its line stand before it. */
+static void take(size_t place, const uint8_t *text, size_t length, size_t lead) {
+    if (fair) copy(place, text, length, lead);
+    else check(place, text, length);
 }
 
 /* ---- reading ---- */
@@ -198,12 +233,19 @@ static int has_no_text(const struct bytes *line) {
     return line->length >= 2 && (line->at[0] == 'X' || line->at[0] == 'R') && line->at[1] == ' ';
 }
 
-static void check_lines(const struct source *s) {
+/* A line without a text: only among fair copies does it stay. */
+static void pass_over(const struct bytes *line) {
+    if (!fair) return;
+    fwrite(line->at, 1, line->length, stdout);
+    putchar('\n');
+}
+
+static void take_lines(const struct source *s) {
     struct bytes line = {NULL, 0, 0};
     for (size_t place = 1; read_line(s, &line); place++) {
-        if (has_no_text(&line)) continue;
-        if (is_define(&line)) check(place, line.at + DEFINE, line.length - DEFINE);
-        else check(place, line.at, line.length);
+        if (has_no_text(&line)) pass_over(&line);
+        else if (is_define(&line)) take(place, line.at + DEFINE, line.length - DEFINE, DEFINE);
+        else take(place, line.at, line.length, 0);
     }
     free(line.at);
 }
@@ -233,50 +275,63 @@ static void complain_record(const struct source *s, size_t place) {
     complain(s->name, what);
 }
 
-static void check_records(const struct source *s) {
+static void take_records(const struct source *s) {
     struct bytes text = {NULL, 0, 0};
     for (size_t place = 1; read_line(s, &text); place++) {
         if (!read_record(s, &text)) {
             complain_record(s, place);
             break;
         }
-        check(place, text.at, text.length);
+        take(place, text.at, text.length, 0);
     }
     free(text.at);
 }
 
-static void check_from(const char *name, void (*check_all)(const struct source *)) {
+static void take_from(const char *name, void (*take_all)(const struct source *)) {
     struct source s;
     if (!open_source(&s, name)) return;
-    check_all(&s);
+    take_all(&s);
     fclose(s.in);
 }
 
-static void check_files(char **names, int count) {
+static void take_files(char **names, int count) {
     struct bytes text = {NULL, 0, 0};
     struct source s;
     for (int i = 0; i < count; i++) {
         if (!open_source(&s, names[i])) continue;
         read_bytes(&s, &text, SIZE_MAX);
-        if (!ferror(s.in)) check((size_t)i + 1, text.at, text.length);
+        if (!ferror(s.in)) take((size_t)i + 1, text.at, text.length, 0);
         fclose(s.in);
     }
     free(text.at);
 }
 
+/* ---- use ---- */
+
+/* Options come first, so no name begins as they do. */
+static int are_names(char **words, int count) {
+    for (int i = 0; i < count; i++)
+        if (words[i][0] == '-') return 0;
+    return 1;
+}
+
+static void wrong_use(void) {
+    fputs(usage, stderr);
+    worsen(FAILED);
+}
+
 int main(int argc, char **argv) {
-    int options = argc > 1 && argv[1][0] == '-';
-    const char *option = options ? argv[1] : "";
-    char **names = argv + 1 + options;
-    int count = argc - 1 - options;
-    if (strcmp(option, "-h") == 0) fputs(usage, stdout);
-    else if (strcmp(option, "-t") == 0 && count > 0) check_files(names, count);
-    else if (strcmp(option, "-r") == 0 && count <= 1) check_from(names[0], check_records);
-    else if (!options && count <= 1) check_from(names[0], check_lines);
-    else {
-        fputs(usage, stderr);
-        worsen(FAILED);
-    }
+    fair = argc > 1 && strcmp(argv[1], "-f") == 0;
+    int options = argc > 1 + fair && argv[1 + fair][0] == '-';
+    const char *option = options ? argv[1 + fair] : "";
+    char **names = argv + 1 + fair + options;
+    int count = argc - 1 - fair - options;
+    if (strcmp(option, "-h") == 0 && !fair) fputs(usage, stdout);
+    else if (!are_names(names, count)) wrong_use();
+    else if (strcmp(option, "-t") == 0 && count > 0) take_files(names, count);
+    else if (strcmp(option, "-r") == 0 && count <= 1) take_from(names[0], take_records);
+    else if (!options && count <= 1) take_from(names[0], take_lines);
+    else wrong_use();
     if (fflush(stdout) != 0 || ferror(stdout) || fclose(stdout) != 0) complain("standard output", "cannot be written");
     return status;
 }

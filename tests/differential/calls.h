@@ -42,7 +42,8 @@ struct tally {
     unsigned long long exact_paper; /* finished with the whole output, not of 0 bytes */
 };
 
-/* The numbers that each kind of call must give, up to MUST_END. It gives no other. */
+/* The numbers that each kind of call must give, up to MUST_END. It gives no other; 30
+ * is a fair copy's, so none here gives it. */
 struct must {
     uint8_t numbers[CALL_KINDS][REC_NUMBERS];
 };

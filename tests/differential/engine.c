@@ -96,3 +96,9 @@ int32_t engine_link(const uint8_t *text, size_t length, int32_t *cells, size_t r
 {
     return rec_link(text, length, cells, room, used);
 }
+
+int32_t engine_fair_copy(const uint8_t *text, size_t length, uint8_t *paper, size_t room,
+                         size_t *written)
+{
+    return rec_fair_copy(text, length, paper, room, written);
+}

@@ -49,5 +49,7 @@ bool engine_call(int32_t *cells, size_t *used, int32_t *variables, const struct 
 
 int32_t engine_check(const uint8_t *text, size_t length);
 int32_t engine_link(const uint8_t *text, size_t length, int32_t *cells, size_t room, size_t *used);
+int32_t engine_fair_copy(const uint8_t *text, size_t length, uint8_t *paper, size_t room,
+                         size_t *written);
 
 #endif

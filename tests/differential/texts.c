@@ -673,3 +673,109 @@ void text_hard(struct random *r, const uint8_t *letters, size_t count, struct te
             text_spoil(r, text);
     }
 }
+
+/* ---- untidy texts ------------------------------------------------------ */
+
+void text_brim(struct random *r, struct text *text)
+{
+    static const char *const marks[] = {"'/-999999999'", "'/100000000'", "'/0'", "''a,  b. '",
+                                        "''\" \"'", "''/007'", "''/-0'", "F0", "S9", "(;)", "-"};
+    size_t length = (size_t)between(r, 254, 258);
+    text_clear(text);
+    text_add(text, "(");
+    text_fill(text, "$1000$", below(r, 17));
+    while (text->length + 14 < length)
+        text_add(text, PICK(r, marks));
+    while (text->length + 1 < length)
+        text_add(text, chance(r, 50) ? "A" : chance(r, 50) ? ";" : ":");
+    text_add(text, ")");
+}
+
+size_t part_length(const uint8_t *part)
+{
+    size_t length = part[0] == '\'' ? 2 : 1; /* the second byte of a print is no end */
+    if (part[0] == 'F' || part[0] == 'S')
+        return 2;
+    if (part[0] != '"' && part[0] != '$' && part[0] != '\'')
+        return 1;
+    while (part[length] != part[0])
+        length++;
+    return length + 1;
+}
+
+struct muddler {
+    struct random *r;
+    struct text *text;
+    size_t spare;   /* bytes that may yet come beside the copy's */
+    uint32_t gaps;  /* percent */
+    uint32_t zeros; /* percent of numbers with zeros */
+};
+
+static void add_spare(struct muddler *m, const char *words)
+{
+    size_t length = strlen(words);
+    if (length > m->spare)
+        return;
+    text_add(m->text, words);
+    m->spare -= length;
+}
+
+static void muddle_gap(struct muddler *m)
+{
+    static const char *const gaps[] = {" ", " ", "  ", "\n", " \n ", "\"\"", "\"it's\"", "\"a, b.\"",
+                                       "\"''a'\n$01$\"", "\"(\" \")\""};
+    while (chance(m->r, m->gaps))
+        add_spare(m, PICK(m->r, gaps));
+}
+
+/* With zeros in front, up to `most` digits. */
+static void muddle_digits(struct muddler *m, const uint8_t *digits, size_t count, size_t most)
+{
+    if (chance(m->r, m->zeros))
+        for (uint32_t i = below(m->r, (uint32_t)(most - count) + 1); i > 0; i--)
+            add_spare(m, "0");
+    for (size_t i = 0; i < count; i++)
+        text_byte(m->text, digits[i]);
+}
+
+static void muddle_constant(struct muddler *m, const uint8_t *mark, size_t length)
+{
+    size_t start = mark[2] == '-' ? 3 : 2;
+    text_add(m->text, start == 3 ? "'/-" : "'/");
+    if (mark[2] == '0' && chance(m->r, m->zeros))
+        add_spare(m, "-");
+    muddle_digits(m, mark + start, length - start - 1, 9);
+    text_add(m->text, "'");
+}
+
+static void muddle_mark(struct muddler *m, const uint8_t *mark, size_t length)
+{
+    if (mark[0] == ';') {
+        text_add(m->text, chance(m->r, 50) ? ";" : ",");
+    } else if (mark[0] == ':') {
+        text_add(m->text, chance(m->r, 50) ? ":" : ".");
+    } else if (mark[0] == '\'' && mark[1] == '/') {
+        muddle_constant(m, mark, length);
+    } else if (mark[0] == '$') {
+        text_add(m->text, "$");
+        muddle_digits(m, mark + 1, length - 2, 4);
+        text_add(m->text, "$");
+    } else {
+        for (size_t i = 0; i < length; i++)
+            text_byte(m->text, mark[i]);
+    }
+}
+
+void text_muddle(struct random *r, const struct text *copy, struct text *text)
+{
+    struct muddler m = {r, text, 256 - copy->length, below(r, 50), below(r, 101)};
+    bool full = chance(r, 20);
+    text_clear(text);
+    muddle_gap(&m);
+    for (size_t i = 0; i < copy->length; i += part_length(copy->bytes + i)) {
+        muddle_mark(&m, copy->bytes + i, part_length(copy->bytes + i));
+        muddle_gap(&m);
+    }
+    while (full && m.spare > 0)
+        add_spare(&m, " ");
+}

@@ -57,4 +57,14 @@ void text_raw(struct random *r, struct text *text);  /* bytes of all values */
 /* Marks of so many cells, 16 counters at most, expressions closed. */
 void text_cells(struct random *r, struct text *text, size_t cells);
 
+/* About 256 bytes, of which a fair copy keeps all. */
+void text_brim(struct random *r, struct text *text);
+
+/* The marks of a fair copy, with what a fair copy takes away again: blanks, newlines,
+ * comments, zeros, minus zero, `,` and `.`. At most 256 bytes. */
+void text_muddle(struct random *r, const struct text *copy, struct text *text);
+
+/* Bytes of a mark of an accepted text, or of the blank, newline or comment here. */
+size_t part_length(const uint8_t *part);
+
 #endif

@@ -103,11 +103,12 @@ bool met(unsigned long long times, unsigned long long least, const char *form, .
 
 const char *number_word(uint32_t number)
 {
-    static const char *const words[30] = {
+    static const char *const words[] = {
         "accepted or finished", "no such letter", "long text", "stray mark", "deep",
         "bad counter", "bad constant", "unfinished", "table full", "many counters",
         "not standing", "bad input", "bad list", "bad store", "bad line", NULL, NULL, NULL,
         NULL, NULL, "spent", "list empty", "list full", "range", "zero divisor", "no input",
-        "paper out", "no text", "deep calls", "damaged"};
-    return number < 30 && words[number] ? words[number] : "no number of document 01";
+        "paper out", "no text", "deep calls", "damaged", "short paper"};
+    bool known = number < sizeof words / sizeof words[0] && words[number] != NULL;
+    return known ? words[number] : "no number of the documents";
 }

@@ -27,7 +27,7 @@ int work(const struct work *work, int count, char **words);
  * directed cases only the latter. */
 bool met(unsigned long long times, unsigned long long least, const char *form, ...);
 
-/* Document 01's word of a number. */
+/* The documents' word of a number. */
 const char *number_word(uint32_t number);
 
 #endif

@@ -129,11 +129,13 @@ static void ends_of_a_run(void) {
 /* ---- null with length 0 ---- */
 
 static void nulls(void) {
-    size_t used = 99;
+    size_t used = 99, written = 99;
     fresh();
     HOLDS(rec_check(NULL, 0) == REC_UNFINISHED);
     HOLDS(rec_link(NULL, 0, NULL, 0, &used) == REC_UNFINISHED && used == 0);
     HOLDS(rec_link((const uint8_t *)"()", 2, NULL, 0, &used) == REC_FINISHED && used == 3);
+    HOLDS(rec_fair_copy(NULL, 0, NULL, 0, &written) == REC_UNFINISHED && written == 0);
+    HOLDS(rec_fair_copy((const uint8_t *)"()", 2, NULL, 0, &written) == REC_SHORT_PAPER && written == 0);
     HOLDS(rec_define(&lent.store, 'q', NULL, 0) == REC_UNFINISHED);
     HOLDS(define('q', "(;)") == REC_FINISHED);
     HOLDS(define('o', "(''A';)") == REC_FINISHED);
@@ -216,6 +218,43 @@ static void links(void) {
     HOLDS(rec_check(text, 4) == REC_FINISHED && rec_check(text, 3) == REC_UNFINISHED);
 }
 
+static int32_t copy(const char *text, size_t room, size_t *written) {
+    memset(lent.paper, MARK, sizeof lent.paper);
+    *written = 99;
+    return rec_fair_copy((const uint8_t *)text, strlen(text), lent.paper, room, written);
+}
+
+static int refused_copy(int32_t number, const char *text, size_t room) {
+    size_t written;
+    return copy(text, room, &written) == number && written == 0 && all_bytes(lent.paper, sizeof lent.paper, MARK);
+}
+
+static int copied(const char *text, size_t room, const char *fair) {
+    size_t written, length = strlen(fair);
+    return copy(text, room, &written) == REC_FINISHED && written == length && memcmp(lent.paper, fair, length) == 0 &&
+           all_bytes(lent.paper + length, sizeof lent.paper - length, MARK);
+}
+
+/* A fair copy in as much room as it needs, in more, in one byte less and in none; a text's faults come before a short paper. */
+static void fair_copies(void) {
+    static const char text[] = "( '/007' , N \"it's so\"\n. $0010$ ''a  b' '/-0' ;)";
+    static const char fair[] = "('/7';N:$10$''a  b''/0';)";
+    static char longer[258];
+    const size_t length = sizeof fair - 1;
+    memset(longer, ' ', 257);
+    HOLDS(copied(text, length, fair) && copied(text, length + 1, fair) && copied(text, PAPER, fair));
+    HOLDS(copied(fair, length, fair));
+    HOLDS(refused_copy(REC_SHORT_PAPER, text, length - 1) && refused_copy(REC_SHORT_PAPER, text, 0) && refused_copy(REC_SHORT_PAPER, fair, length - 1));
+    for (size_t room = 0; room <= PAPER; room += PAPER) {
+        HOLDS(refused_copy(REC_LONG_TEXT, longer, room));
+        HOLDS(refused_copy(REC_STRAY_MARK, "() .", room));
+        HOLDS(refused_copy(REC_DEEP, "(((((((((((", room));
+        HOLDS(refused_copy(REC_BAD_COUNTER, "($0000$)", room));
+        HOLDS(refused_copy(REC_BAD_CONSTANT, "('/-')", room));
+        HOLDS(refused_copy(REC_UNFINISHED, "( N", room));
+    }
+}
+
 /* ---- a day ---- */
 
 static int32_t day(const char *input, uint8_t *output, size_t room, size_t *written) {
@@ -256,6 +295,7 @@ int main(void) {
     nulls();
     refusals();
     links();
+    fair_copies();
     days();
     HOLDS(guarded());
     printf("%d\n", claims);

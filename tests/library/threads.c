@@ -1,4 +1,4 @@
-/* The same calls from one thread, and from several at once, each with a store of its own: the answers are the same. */
+/* The same calls from one thread, and from several at once, each with a store and buffers of its own: the answers are the same. */
 #include <pthread.h>
 #include <rec.h>
 #include <stdlib.h>
@@ -10,8 +10,8 @@ enum { THREADS = 8, CALLS = 20000, PAPER = 300, ALLOWANCE = 500 };
 /* A list of calls, made of its seed alone, and what came of it. */
 struct day {
     uint32_t seed;
-    uint64_t sum; /* of all answers, figures, lists, outputs and of the store at the end */
-    int finished, stopped, refused;
+    uint64_t sum; /* of all answers, figures, lists, outputs, fair copies and of the store at the end */
+    int finished, stopped, refused, copied;
 };
 
 static uint32_t draw(uint32_t *state, uint32_t below) {
@@ -28,14 +28,14 @@ static void add(struct day *d, const void *at, size_t length) {
 static void add_answer(struct day *d, int32_t answer) {
     add(d, &answer, sizeof answer);
     if (answer == REC_FINISHED) d->finished++;
-    else if (answer >= REC_SPENT) d->stopped++;
+    else if (answer >= REC_SPENT && answer <= REC_DAMAGED) d->stopped++;
     else d->refused++;
 }
 
 /* A text of random marks; one in some is refused. */
 static size_t write_text(char *text, uint32_t *state) {
     static const char *marks[] = {"'/12'", "'/-3'", "+", "-", "*", "/", "I", "P", "L", "M", "S1", "F1", "S0", "F2", "$3$", "a", "b", "c", "''x'", "O", "X",
-                                  "N", "0", "J", ";", ":", "(N)", "(0L;)", "B"};
+                                  "N", "0", "J", ";", ":", "(N)", "(0L;)", "B", " ", "\n", "\"c\"", "'/-00'", "$02$", ",", "."};
     size_t count = draw(state, 20);
     strcpy(text, "('/4'");
     for (size_t i = 0; i < count; i++) strcat(text, marks[draw(state, sizeof marks / sizeof *marks)]);
@@ -49,11 +49,17 @@ static void call(struct day *d, rec_store *store, uint32_t *state) {
     uint8_t paper[PAPER];
     rec_report report;
     uint8_t letter = (uint8_t)('a' + draw(state, 4));
-    uint32_t kind = draw(state, 10);
+    uint32_t kind = draw(state, 11);
     if (kind < 3) {
         add_answer(d, rec_define(store, letter, (const uint8_t *)text, write_text(text, state)));
     } else if (kind == 3) {
         add_answer(d, rec_withdraw(store, letter));
+    } else if (kind == 4) {
+        size_t length = write_text(text, state), room = draw(state, 4) > 0 ? length : draw(state, (uint32_t)length), written;
+        int32_t answer = rec_fair_copy((const uint8_t *)text, length, paper, room, &written);
+        add_answer(d, answer);
+        add(d, paper, written);
+        if (answer == REC_FINISHED) d->copied++;
     } else {
         for (int i = 0; i < 4; i++) inputs[i] = (int32_t)draw(state, 1000) - 500;
         int32_t answer = rec_run(store, letter, ALLOWANCE, inputs, 4, list, REC_LIST, paper, PAPER, &report);
@@ -87,7 +93,7 @@ int main(void) {
     for (int k = 0; k < THREADS; k++) HOLDS(pthread_join(threads[k], NULL) == 0);
     for (int k = 0; k < THREADS; k++) {
         HOLDS(together[k].sum == alone[k].sum);
-        HOLDS(alone[k].finished > CALLS / 10 && alone[k].stopped > CALLS / 20 && alone[k].refused > CALLS / 20);
+        HOLDS(alone[k].finished > CALLS / 10 && alone[k].stopped > CALLS / 20 && alone[k].refused > CALLS / 20 && alone[k].copied > CALLS / 50);
         HOLDS(k == 0 || alone[k].sum != alone[k - 1].sum);
     }
     printf("%d threads with %d calls each\n", THREADS, CALLS);

@@ -219,7 +219,7 @@ static int add_tally(const char *path, const struct tally *tally)
     if (!file)
         return 2;
     fprintf(file, "%llu %llu", tally->lines, tally->bytes);
-    for (size_t i = 0; i < REC_NUMBERS; i++)
+    for (size_t i = 0; i <= REC_DAMAGED; i++)
         fprintf(file, " %llu", tally->numbers[i]);
     putc('\n', file);
     return fclose(file) ? 2 : 0;

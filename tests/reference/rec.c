@@ -417,6 +417,113 @@ void rec_table(const struct rec_tree *tree, int32_t cells[REC_CELLS])
     put(cells, tree->used, 1);
 }
 
+/* ---- the clean print --------------------------------------------------- */
+
+/* No mark grows in the copy, so it has room where the text had. */
+struct copy {
+    uint8_t bytes[REC_TEXT];
+    size_t length;
+};
+
+static void copy_byte(struct copy *copy, uint8_t byte)
+{
+    copy->bytes[copy->length++] = byte;
+}
+
+static void copy_number(struct copy *copy, int32_t number)
+{
+    if (number >= 10)
+        copy_number(copy, number / 10);
+    copy_byte(copy, (uint8_t)('0' + number % 10));
+}
+
+static void copy_counter(struct copy *copy, int32_t n)
+{
+    copy_byte(copy, '$');
+    copy_number(copy, n);
+    copy_byte(copy, '$');
+}
+
+/* The value of minus zero is 0, so it has no minus. */
+static void copy_constant(struct copy *copy, int32_t value)
+{
+    copy_byte(copy, '\'');
+    copy_byte(copy, '/');
+    if (value < 0)
+        copy_byte(copy, '-');
+    copy_number(copy, value < 0 ? -value : value);
+    copy_byte(copy, '\'');
+}
+
+static void copy_print(struct copy *copy, const uint8_t *bytes, size_t length)
+{
+    copy_byte(copy, '\'');
+    copy_byte(copy, '\'');
+    for (size_t i = 0; i < length; i++)
+        copy_byte(copy, bytes[i]);
+    copy_byte(copy, '\'');
+}
+
+static void copy_expression(struct copy *copy, const struct rec_tree *tree,
+                            size_t first);
+
+static void copy_item(struct copy *copy, const struct rec_tree *tree,
+                      const struct rec_item *item)
+{
+    switch (item->kind) {
+    case REC_FETCH:
+    case REC_KEEP:
+        copy_byte(copy, item->mark);
+        copy_byte(copy, (uint8_t)('0' + item->value % 10)); /* 10 is the digit 0 */
+        break;
+    case REC_COUNTER:
+        copy_counter(copy, item->value);
+        break;
+    case REC_CONSTANT:
+        copy_constant(copy, item->value);
+        break;
+    case REC_PRINT:
+        copy_print(copy, tree->text + item->start, item->length);
+        break;
+    case REC_INNER:
+        copy_expression(copy, tree, item->inner);
+        break;
+    default:
+        copy_byte(copy, item->mark);
+        break;
+    }
+}
+
+/* The ender of the last segment is the `)`. */
+static void copy_expression(struct copy *copy, const struct rec_tree *tree,
+                            size_t first)
+{
+    copy_byte(copy, '(');
+    for (size_t s = first; s != REC_NONE; s = tree->segments[s].next) {
+        const struct rec_segment *segment = &tree->segments[s];
+        for (size_t i = segment->first; i != REC_NONE; i = tree->items[i].next)
+            copy_item(copy, tree, &tree->items[i]);
+        copy_byte(copy, segment->ender);
+    }
+}
+
+uint32_t rec_clean_print(const uint8_t *text, size_t length, uint8_t *paper,
+                         size_t room, size_t *written)
+{
+    struct rec_tree tree;
+    struct copy copy = {.length = 0};
+    uint32_t fault = rec_read(text, length, &tree);
+    *written = 0;
+    if (fault)
+        return fault;
+    copy_expression(&copy, &tree, tree.outermost);
+    if (copy.length > room)
+        return REC_SHORT_PAPER;
+    memcpy(paper, copy.bytes, copy.length);
+    *written = copy.length;
+    return 0;
+}
+
 /* ---- the nested meaning ------------------------------------------------ */
 
 struct obeying {

@@ -1,9 +1,11 @@
-/* An independent implementation of document 01, to compare the engine with.
+/* An independent implementation of document 01 and of U1 of document 02, to
+ * compare the engine with.
  *
- * rec_read    reads a text: accepts it, or gives the number of its first fault
- * rec_table   lays the text out as a code table of 250 cells
- * rec_book_*  the book: texts, obeyed by the nested meaning over the parsed tree
- * rec_store_* the store: code tables, obeyed cell by cell, damaged or not
+ * rec_read         reads a text: accepts it, or gives its first fault's number
+ * rec_table        lays the text out as a code table of 250 cells
+ * rec_clean_print  writes the text's fair copy over the parsed tree (U1)
+ * rec_book_*       the book: texts, obeyed by the nested meaning over the tree
+ * rec_store_*      the store: code tables, obeyed cell by cell, damaged or not
  *
  * The two ways to run share no code beside the limits below. */
 #ifndef REFERENCE_H
@@ -52,7 +54,8 @@ enum rec_number {
     REC_NO_TEXT = 27,
     REC_DEEP_CALLS = 28,
     REC_DAMAGED = 29,
-    REC_NUMBERS = 30
+    REC_SHORT_PAPER = 30, /* document 02, U1 */
+    REC_NUMBERS = 31
 };
 
 /* The clauses of number 29, in the document's order. Only for statistics. */
@@ -153,6 +156,12 @@ struct rec_store {
 
 uint32_t rec_read(const uint8_t *text, size_t length, struct rec_tree *tree);
 void rec_table(const struct rec_tree *tree, int32_t cells[REC_CELLS]);
+
+/* The linker's refusal, else 30 where the copy is over `room` bytes, else 0 with
+ * the copy at the start of the paper. A refusal, 30 too, writes nothing and its
+ * length is 0. Text of length 0 and paper of room 0 may be NULL. */
+uint32_t rec_clean_print(const uint8_t *text, size_t length, uint8_t *paper,
+                         size_t room, size_t *written);
 
 void rec_book_fresh(struct rec_book *book);
 uint32_t rec_book_define(struct rec_book *book, uint8_t letter,

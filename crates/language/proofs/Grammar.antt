@@ -12,7 +12,7 @@ use Rattle.language.proofs.ReadingParsing.{read-sound, read-complete}
 use Rattle.language.proofs.TokensComplete.{lexing-complete}
 use Rattle.language.proofs.TokensSound.{lexing-sound}
 
-lexed-marks : (xs : List Lexeme) → AllFormed xs → marksIn 0 (tokens (spellAll xs) idle) ≡ marksOf 0 xs
+pub lexed-marks : (xs : List Lexeme) → AllFormed xs → marksIn 0 (tokens (spellAll xs) idle) ≡ marksOf 0 xs
 lexed-marks xs h = ap (marksIn 0) (lexing-complete xs 0 h) ∙ tokens-marks (marksOf 0 xs) 0 (lexemes-formed xs 0 h)
 
 pub reading-sound : (t : List ℕ) (w : Expr) → read t ≡ accepted w → Keeps t w

@@ -93,7 +93,7 @@ expr-formed (inner f e) r c n p hn h =
 
 -- ── formed lexemes ──────────────────────────────────────────────────────────────────────────────
 
-value-bound : (ds : List ℕ) (v n m : ℕ) → Digits ds → v < 10 ^ n → n + length ds ≤ m → valueFrom v ds < 10 ^ m
+pub value-bound : (ds : List ℕ) (v n m : ℕ) → Digits ds → v < 10 ^ n → n + length ds ≤ m → valueFrom v ds < 10 ^ m
 value-bound [] v n m h lt le =
     let p : 10 ^ n ≤ 10 ^ m = pow-le-pow-right (omega arith) (omega arith) in
     omega arith

@@ -56,20 +56,20 @@ pub record Rendering (w : ℕ) (text : List ℕ) (n k : ℕ) : Type 0 where
   pub left : digits k n ++ done ≡ digits 10 w
 
 -- with 10 or more there are two digits at least
-room-for : (n f : ℕ) → 9 < n → n < 10 ^ suc f → 1 ≤ f
+pub room-for : (n f : ℕ) → 9 < n → n < 10 ^ suc f → 1 ≤ f
 room-for n zero h s = absurd (omega arith)
 room-for n (suc f) h s = omega arith
 
-many : (f n : ℕ) → 9 < n → digits (suc f) n ≡ digits f (n / 10) ++ (digitByte (n % 10) ∷ [])
+pub many : (f n : ℕ) → 9 < n → digits (suc f) n ≡ digits f (n / 10) ++ (digitByte (n % 10) ∷ [])
 unfolding digits
 many f n h = rw (le-ltb n 10 h)
 
-few : (f n : ℕ) → n < 10 → digits (suc f) n ≡ digitByte n ∷ []
+pub few : (f n : ℕ) → n < 10 → digits (suc f) n ≡ digitByte n ∷ []
 unfolding digits
 few f n h = rw (lt-ltb n 10 h)
 
 -- A number of at most f digits has no more where one more is allowed.
-digits-enough : (f n : ℕ) → 1 ≤ f → n < 10 ^ f → digits (suc f) n ≡ digits f n
+pub digits-enough : (f n : ℕ) → 1 ≤ f → n < 10 ^ f → digits (suc f) n ≡ digits f n
 digits-enough zero n h s = absurd (omega arith)
 digits-enough (suc f) n h s =
     let p = pow-succ' 10 f in

@@ -20,15 +20,15 @@ use Rattle.numerals.proofs.Decimals.{ends-length}
 
 -- ── read ────────────────────────────────────────────────────────────────────────────────────────
 
-digits-more : (l : List ℕ) (d : ℕ) → Digits l → d < 10 → Digits (l ++ (d ∷ []))
+pub digits-more : (l : List ℕ) (d : ℕ) → Digits l → d < 10 → Digits (l ++ (d ∷ []))
 digits-more [] d h k = (k, tt)
 digits-more (x ∷ l) d h k = (h .0, digits-more l d (h .1) k)
 
-value-more : (v : ℕ) (l : List ℕ) (d : ℕ) → valueFrom v (l ++ (d ∷ [])) ≡ 10 * valueFrom v l + d
+pub value-more : (v : ℕ) (l : List ℕ) (d : ℕ) → valueFrom v (l ++ (d ∷ [])) ≡ 10 * valueFrom v l + d
 value-more v [] d = refl
 value-more v (x ∷ l) d = value-more (10 * v + x) l d
 
-bytes-more : (l : List ℕ) (d : ℕ) (r : List ℕ) → digitBytes (l ++ (d ∷ [])) r ≡ digitBytes l (digitByte d ∷ r)
+pub bytes-more : (l : List ℕ) (d : ℕ) (r : List ℕ) → digitBytes (l ++ (d ∷ [])) r ≡ digitBytes l (digitByte d ∷ r)
 bytes-more [] d r = refl
 bytes-more (x ∷ l) d r = ap (λ (t : List ℕ). digitByte x ∷ t) (bytes-more l d r)
 

@@ -5,6 +5,7 @@ ghost use lib.Seq.{paste};
 ghost use Rattle.language.specs.Limits.{maxCells};
 ghost use Rattle.language.specs.Reading.{read};
 ghost use Rattle.linker.specs.Linked.{linked};
+ghost use Rattle.faircopy.specs.FairCopy.{answers, copied};
 ghost use Rattle.book.specs.Calls.{defines, withdraws, running};
 ghost use Rattle.book.specs.Store.{storeOf, freshStore, storeCall, told};
 ghost use Rattle.console.specs.Day.{dayOf};
@@ -146,6 +147,17 @@ pub extern "C" fn rec_link(text: &[u8], cells: &mut [i32], used: &mut usize) -> 
     let n = at_most(cells.len());
     copy_cells(&table, cells, n);
     0
+}
+
+// The text's fair copy at the start of the paper: 0 and its length. Where the text is refused, or the copy does not all fit, its number and 0, and the
+// paper stays as it was.
+#[no_mangle]
+pub extern "C" fn rec_fair_copy(text: &[u8], paper: &mut [u8], written: &mut usize) -> u32
+    ensures { λ r. ⌜ answers r (now (written .exit)) (now (paper .exit)) ≡ copied (now (paper .entry)) (read (now (text .entry))) ⌝ }
+{
+    let c = faircopy::fair_copy(text, paper);
+    *written = c.length();
+    c.number()
 }
 
 // ── a day ───────────────────────────────────────────────────────────────────────────────────────

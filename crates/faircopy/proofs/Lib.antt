@@ -1,0 +1,10 @@
+pub mod Numbers
+pub mod Lengths
+pub mod Spelling
+pub mod Claims
+pub mod Written
+pub mod Stepping
+pub mod Steps
+pub mod Copying
+pub mod Answers
+pub mod Examples

@@ -1,0 +1,4 @@
+pub mod FairCopy
+pub mod Steps
+pub mod Claims
+pub mod Examples

@@ -1,0 +1,19 @@
+-- `rec_fair_copy` meets its contract.
+use mathlib.Core.Path.{_≡_, _∙_}
+use mathlib.Core.List.{List}
+use Prim.Native.Nat.{ℕ}
+use borrow.Author.Needs.{needs}
+use Rattle.faircopy.specs.FairCopy.{Answer, answers}
+use Rattle.rec.proofs.rec_fair_copy.Statement.{statement}
+use Rattle.rec.proofs.rec_fair_copy.Tie as tie
+
+-- the number and the length as they are handed on
+handed-on : {n m k l : ℕ} {p : List ℕ} {a : Answer} → n ≡ m → k ≡ l → answers m l p ≡ a → answers n k p ≡ a
+handed-on {p = p} e f h = (λ i. answers (e i) (f i) p) ∙ h
+
+returns : tie.Need-returns
+returns c = handed-on (c .number .ensures) (c .before .length .ensures) (c .before .before .before .before .fair-copy .ensures)
+
+pub rec-fair-copy-spec : {M : Type 1} → statement M
+rec-fair-copy-spec =
+    tie.close (tie.spec (λ c κs. search needs) (λ c κs. search needs) (λ c κs. search needs) (λ c. search needs) returns)
