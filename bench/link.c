@@ -75,18 +75,25 @@ static size_t some_text(uint8_t *text) {
     return length;
 }
 
-typedef int32_t linker(const uint8_t *, size_t, int32_t *, size_t, size_t *);
+static int32_t cells[REC_CELLS];
+static uint8_t paper[REC_TEXT];
+static size_t count;
+
+typedef int32_t call(const uint8_t *, size_t);
+
+static int32_t proved_link_call(const uint8_t *text, size_t length) { return rec_link(text, length, cells, REC_CELLS, &count); }
+static int32_t plain_link_call(const uint8_t *text, size_t length) { return plain_link(text, length, cells, REC_CELLS, &count); }
+static int32_t proved_copy_call(const uint8_t *text, size_t length) { return rec_fair_copy(text, length, paper, REC_TEXT, &count); }
+static int32_t plain_copy_call(const uint8_t *text, size_t length) { return plain_fair_copy(text, length, paper, REC_TEXT, &count); }
 
 /* Nanoseconds for a text, the best of several rounds. */
-static double measure(linker *link, const uint8_t *text, size_t length) {
-    static int32_t cells[REC_CELLS];
-    static size_t used;
+static double measure(call *of, const char *text, size_t length) {
     static volatile int32_t sink;
     double best = 1e9;
     long times = length < 16 ? 400000 : 100000;
     for (int r = 0; r < ROUNDS; r++) {
         double start = seconds();
-        for (long i = 0; i < times; i++) sink = link(text, length, cells, REC_CELLS, &used);
+        for (long i = 0; i < times; i++) sink = of((const uint8_t *)text, length);
         double each = (seconds() - start) / (double)times * 1e9;
         if (each < best) best = each;
     }
@@ -94,32 +101,15 @@ static double measure(linker *link, const uint8_t *text, size_t length) {
     return best;
 }
 
-typedef int32_t copier(const uint8_t *, size_t, uint8_t *, size_t, size_t *);
-
-static double measure_copy(copier *copy, const uint8_t *text, size_t length) {
-    static uint8_t paper[REC_TEXT];
-    static size_t written;
-    static volatile int32_t sink;
-    double best = 1e9;
-    long times = length < 16 ? 400000 : 100000;
-    for (int r = 0; r < ROUNDS; r++) {
-        double start = seconds();
-        for (long i = 0; i < times; i++) sink = copy(text, length, paper, REC_TEXT, &written);
-        double each = (seconds() - start) / (double)times * 1e9;
-        if (each < best) best = each;
-    }
-    (void)sink;
-    return best;
-}
-
+/* A text's link; and where it is accepted its fair copy, and that beside the link. */
 static void row(const char *name, const char *text, size_t length) {
-    double proved = measure(rec_link, (const uint8_t *)text, length);
-    double plain = measure(plain_link, (const uint8_t *)text, length);
-    printf("%-38s %4zu bytes  proved %7.0f ns  plain %7.0f ns  ratio %.2f\n", name, length, proved, plain, proved / plain);
-    double copy = measure_copy(rec_fair_copy, (const uint8_t *)text, length);
-    plain = measure_copy(plain_fair_copy, (const uint8_t *)text, length);
+    double link = measure(proved_link_call, text, length), plain = measure(plain_link_call, text, length);
+    printf("%-38s %4zu bytes  proved %7.0f ns  plain %7.0f ns  ratio %.2f\n", name, length, link, plain, link / plain);
+    if (rec_check((const uint8_t *)text, length) != REC_FINISHED) return;
+    double copy = measure(proved_copy_call, text, length);
+    plain = measure(plain_copy_call, text, length);
     printf("copy of %-30s %4zu bytes  proved %7.0f ns  plain %7.0f ns  ratio %.2f\n", name, length, copy, plain, copy / plain);
-    printf("copy by link, %-24s %4zu bytes  copy %7.0f ns  link %7.0f ns  ratio %.2f\n", name, length, copy, proved, copy / proved);
+    printf("copy by link, %-24s %4zu bytes  copy %7.0f ns  link %7.0f ns  ratio %.2f\n", name, length, copy, link, copy / link);
 }
 
 int main(void) {

@@ -17,8 +17,8 @@ use Rattle.language.proofs.GrammarMarks.{marksIn, spelled-marks}
 use Rattle.linker.specs.Linked.{linked}
 use Rattle.faircopy.specs.FairCopy.{marksBytes, fairCopy, copyOf, copied}
 use Rattle.faircopy.specs.Claims.{SameExpression, SameTable, CopyOfCopy, NeverLonger, PaperOfText, AllFair, AllCopiesFair}
-use Rattle.faircopy.proofs.Lengths.{never-longer as marks-shorter, fair}
-use Rattle.faircopy.proofs.Spelling.{Spelling, spelling}
+use Rattle.faircopy.proofs.ClaimsLengths.{never-longer as marks-shorter, fair}
+use Rattle.faircopy.proofs.ClaimsSpelling.{Spelling, spelling}
 
 -- the lexemes of an accepted text's copy
 copy-spelled : (t : List ℕ) (w : Expr) → read t ≡ accepted w → Spelling 0 (mOpen ∷ marks w [])

@@ -1,10 +1,10 @@
-pub mod Numbers
-pub mod Lengths
-pub mod Spelling
+pub mod Decimals
+pub mod ClaimsLengths
+pub mod ClaimsSpelling
 pub mod Claims
 pub mod Written
-pub mod Stepping
-pub mod Steps
-pub mod Copying
-pub mod Answers
+pub mod StepsParts
+pub mod StepsCopy
+pub mod StepsLoop
+pub mod FairCopyAnswers
 pub mod Examples

@@ -4,7 +4,7 @@ use Prim.Native.Nat.{_+_}
 use mathlib.Core.Path.{refl}
 use denote.Ref.{now}
 use borrow.Author.Needs.{needs}
-use Rattle.faircopy.proofs.Stepping.{constant-none, constant-minus, constant-plain, moves-as, moves-after, fits-as}
+use Rattle.faircopy.proofs.StepsParts.{constant-none, constant-minus, constant-plain, moves-as, moves-after, fits-as}
 use Rattle.faircopy.proofs.copy_constant.Statement.{statement}
 use Rattle.faircopy.proofs.copy_constant.Tie as tie
 

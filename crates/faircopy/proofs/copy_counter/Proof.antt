@@ -7,7 +7,7 @@ use denote.Ref.{now}
 use borrow.Author.Needs.{needs}
 use Rattle.language.specs.Bytes.{dollarByte}
 use Rattle.faircopy.specs.Steps.{Step, throughStep, zeros}
-use Rattle.faircopy.proofs.Stepping.{dropped, moves-as, moves-after, fits-as, fits-prefixed, moves-prefixed}
+use Rattle.faircopy.proofs.StepsParts.{dropped, moves-as, moves-after, fits-as, fits-prefixed, moves-prefixed}
 use Rattle.faircopy.proofs.copy_counter.Statement.{statement}
 use Rattle.faircopy.proofs.copy_counter.Tie as tie
 

@@ -9,7 +9,7 @@ use borrow.Author.Needs.{needs}
 use Rattle.language.specs.Bytes.{tickByte, slashByte}
 use Rattle.numerals.specs.Numerals.{wrote, written}
 use Rattle.faircopy.specs.Steps.{Step, prefixed, throughStep, zeros, signBytes, Fits}
-use Rattle.faircopy.proofs.Stepping.{dropped, moves-as, moves-after, fits-as, fits-prefixed, moves-prefixed}
+use Rattle.faircopy.proofs.StepsParts.{dropped, moves-as, moves-after, fits-as, fits-prefixed, moves-prefixed}
 use Rattle.faircopy.proofs.copy_digits.Statement.{statement}
 use Rattle.faircopy.proofs.copy_digits.Tie as tie
 

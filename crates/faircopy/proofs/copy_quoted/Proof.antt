@@ -9,7 +9,7 @@ use borrow.Author.Needs.{needs}
 use Rattle.language.specs.Bytes.{tickByte}
 use Rattle.faircopy.specs.Steps.{throughStep}
 use Rattle.faircopy.proofs.Written.{nothing-written}
-use Rattle.faircopy.proofs.Stepping.{tick-none, tick-constant, tick-print, moves-as, moves-after, fits-as, fits-prefixed, moves-prefixed}
+use Rattle.faircopy.proofs.StepsParts.{tick-none, tick-constant, tick-print, moves-as, moves-after, fits-as, fits-prefixed, moves-prefixed}
 use Rattle.faircopy.proofs.copy_quoted.Statement.{statement}
 use Rattle.faircopy.proofs.copy_quoted.Tie as tie
 

@@ -6,7 +6,7 @@ use denote.Ref.{now}
 use borrow.Author.Needs.{needs}
 use Rattle.language.specs.Bytes.{quoteByte, dollarByte, tickByte, commaByte, pointByte}
 use Rattle.faircopy.proofs.Written.{nothing-written}
-use Rattle.faircopy.proofs.Stepping.{step-is, step-blank, step-quote, step-comma, step-point, step-dollar, step-tick, step-other, moves-as, moves-after, fits-as}
+use Rattle.faircopy.proofs.StepsParts.{step-is, step-blank, step-quote, step-comma, step-point, step-dollar, step-tick, step-other, moves-as, moves-after, fits-as}
 use Rattle.faircopy.proofs.copy_step.Statement.{statement}
 use Rattle.faircopy.proofs.copy_step.Tie as tie
 

@@ -6,7 +6,7 @@ use lib.ListN.{length}
 use borrow.Author.Needs.{needs}
 use Rattle.language.specs.Syntax.{Expr}
 use Rattle.language.specs.Reading.{accepted, read}
-use Rattle.faircopy.proofs.Copying.{Copying, copying-none, copying-stands, copying-further, copying-more, copying-done}
+use Rattle.faircopy.proofs.StepsLoop.{Copying, copying-none, copying-stands, copying-further, copying-more, copying-done}
 use Rattle.faircopy.proofs.copy_text.Statement.{statement}
 use Rattle.faircopy.proofs.copy_text.Tie as tie
 

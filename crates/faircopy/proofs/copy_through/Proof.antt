@@ -3,7 +3,7 @@ use Prim.Native.Nat.{_-_}
 use native.Mathlib.Omega.{arith}
 use lib.ListN.{length}
 use borrow.Author.Needs.{needs}
-use Rattle.faircopy.proofs.Stepping.{Through, through-none, through-end, through-found, through-more}
+use Rattle.faircopy.proofs.StepsParts.{Through, through-none, through-end, through-found, through-more}
 use Rattle.faircopy.proofs.copy_through.Statement.{statement}
 use Rattle.faircopy.proofs.copy_through.Tie as tie
 

@@ -7,7 +7,7 @@ use denote.Ref.{now}
 use borrow.Author.Needs.{needs}
 use Rattle.language.specs.Limits.{maxText}
 use Rattle.faircopy.specs.Steps.{Copies}
-use Rattle.faircopy.proofs.Answers.{refused-answer, accepted-text, little, short-paper, on-paper}
+use Rattle.faircopy.proofs.FairCopyAnswers.{refused-answer, accepted-text, little, short-paper, on-paper}
 use Rattle.faircopy.proofs.fair_copy.Statement.{statement}
 use Rattle.faircopy.proofs.fair_copy.Tie as tie
 

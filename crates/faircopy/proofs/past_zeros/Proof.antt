@@ -5,7 +5,7 @@ use native.Mathlib.Omega.{arith}
 use lib.ListN.{length, drop}
 use borrow.Author.Needs.{needs}
 use Rattle.faircopy.specs.Steps.{zeros}
-use Rattle.faircopy.proofs.Stepping.{zeros-end, zeros-other, zeros-last, zeros-lone, zeros-more}
+use Rattle.faircopy.proofs.StepsParts.{zeros-end, zeros-other, zeros-last, zeros-lone, zeros-more}
 use Rattle.faircopy.proofs.past_zeros.Statement.{statement}
 use Rattle.faircopy.proofs.past_zeros.Tie as tie
 

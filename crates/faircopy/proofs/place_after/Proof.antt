@@ -5,7 +5,7 @@ use native.Mathlib.Omega.{arith}
 use lib.ListN.{length, drop}
 use borrow.Author.Needs.{needs}
 use Rattle.faircopy.specs.Steps.{reach}
-use Rattle.faircopy.proofs.Stepping.{reach-found, reach-more, reach-end}
+use Rattle.faircopy.proofs.StepsParts.{reach-found, reach-more, reach-end}
 use Rattle.faircopy.proofs.place_after.Statement.{statement}
 use Rattle.faircopy.proofs.place_after.Tie as tie
 

@@ -11,7 +11,7 @@ use borrow.Author.Tests.{not-true, not-false}
 use Rattle.numerals.specs.Numerals.{Written, wrote, written}
 use Rattle.faircopy.specs.Steps.{signBytes}
 use Rattle.faircopy.proofs.Written.{nothing-written}
-use Rattle.faircopy.proofs.Stepping.{sign-end, sign-zero, sign-minus}
+use Rattle.faircopy.proofs.StepsParts.{sign-end, sign-zero, sign-minus}
 use Rattle.faircopy.proofs.write_sign.Statement.{statement}
 use Rattle.faircopy.proofs.write_sign.Tie as tie
 

@@ -20,9 +20,9 @@ use Rattle.language.proofs.Grammar.{reading-sound}
 use Rattle.faircopy.specs.FairCopy.{variableDigit, counterBytes, constantBytes, printBytes, marksBytes, fairCopy}
 use Rattle.faircopy.specs.Claims.{Plain}
 use Rattle.faircopy.specs.Steps.{takes, after, prefixed, reach, throughStep, zeros, signBytes, digitsStep, constantStep, tickStep, stepOf, steps}
-use Rattle.faircopy.proofs.Lengths.{signed-length, counted}
-use Rattle.faircopy.proofs.Numbers.{digit-bytes, digit-bytes-length, natural, plain-digits, value-least}
-use Rattle.faircopy.proofs.Stepping.{step-other}
+use Rattle.faircopy.proofs.ClaimsLengths.{signed-length, counted}
+use Rattle.faircopy.proofs.Decimals.{digit-bytes, digit-bytes-length, natural, plain-digits, value-least}
+use Rattle.faircopy.proofs.StepsParts.{step-other}
 
 -- ── lists ───────────────────────────────────────────────────────────────────────────────────────
 

@@ -16,8 +16,8 @@ use Rattle.faircopy.specs.FairCopy.{fairCopy}
 use Rattle.faircopy.specs.Steps.{Step, takes, after, reach, counterStep, tickStep, stepOf, steps, Moves, Stands}
 use Rattle.faircopy.specs.declared.Moved.{Moved}
 use Rattle.faircopy.proofs.Claims.{copy-shorter}
-use Rattle.faircopy.proofs.Stepping.{at-place}
-use Rattle.faircopy.proofs.Steps.{steps-copy}
+use Rattle.faircopy.proofs.StepsParts.{at-place}
+use Rattle.faircopy.proofs.StepsCopy.{steps-copy}
 use Rattle.faircopy.proofs.Written.{nothing-written}
 
 -- ── a step ──────────────────────────────────────────────────────────────────────────────────────

@@ -20,7 +20,7 @@ use Rattle.language.specs.Grammar.{Mark, mOpen, mClose, mSemi, mColon, mOperati
 use Rattle.language.proofs.GrammarFormed.{FormedOperation}
 use Rattle.language.proofs.GrammarMarks.{FormedMarks}
 use Rattle.faircopy.specs.FairCopy.{variableDigit, constantBytes, markBytes, marksBytes}
-use Rattle.faircopy.proofs.Numbers.{digit-bytes, digit-bytes-length, Spelled, spelled, digits-few, natural}
+use Rattle.faircopy.proofs.Decimals.{digit-bytes, digit-bytes-length, Spelled, spelled, digits-few, natural}
 
 -- lexemes of the marks ms, whose counters are in order from c, with the bytes of their fair copy
 pub record Spelling (c : ℕ) (ms : List Mark) : Type 0 where

@@ -14,7 +14,7 @@ use Rattle.language.specs.Grammar.{digitBytes, minusSign, spellAll, Digits, val
 use Rattle.language.proofs.GrammarMarks.{value-bound}
 use Rattle.faircopy.specs.FairCopy.{counterBytes, constantBytes, printBytes, marksBytes}
 use Rattle.faircopy.specs.Claims.{Plain, Signed, AllFair}
-use Rattle.faircopy.proofs.Numbers.{digit-bytes, digit-bytes-length, digits-few, value-few, natural, value-shorter}
+use Rattle.faircopy.proofs.Decimals.{digit-bytes, digit-bytes-length, digits-few, value-few, natural, value-shorter}
 
 -- ── lengths ─────────────────────────────────────────────────────────────────────────────────────
 
