@@ -485,15 +485,21 @@ static void filter_mark(struct filter *f, uint8_t byte)
         keep(f, byte);
 }
 
+/* One more byte of a comment or a print, and perhaps its last. */
+static void pass(struct filter *f, bool last)
+{
+    f->passed++;
+    if (last)
+        go(f, AMONG_MARKS);
+}
+
 static void filter_comment(struct filter *f, uint8_t byte)
 {
     saw(byte == '"' && f->passed == 0, EMPTY_COMMENT);
     saw(byte == '\n', COMMENT_NEWLINE);
     saw(byte == '\'', COMMENT_APOSTROPHE);
     saw(byte == ',' || byte == '.', COMMENT_SEPARATOR);
-    f->passed++;
-    if (byte == '"')
-        go(f, AMONG_MARKS);
+    pass(f, byte == '"');
 }
 
 static void filter_print(struct filter *f, uint8_t byte)
@@ -502,10 +508,8 @@ static void filter_print(struct filter *f, uint8_t byte)
     saw(byte == ' ', PRINT_BLANK);
     saw(byte == '"', PRINT_QUOTE);
     saw(byte == ',' || byte == '.', PRINT_SEPARATOR);
-    f->passed++;
     keep(f, byte);
-    if (byte == '\'')
-        go(f, AMONG_MARKS);
+    pass(f, byte == '\'');
 }
 
 static void saw_number(const struct filter *f)
@@ -586,29 +590,30 @@ static uint32_t print_on_sheet(const uint8_t *text, size_t length, size_t room, 
     return number;
 }
 
-/* Rooms 0 and 1 are too short for any copy: the linker's number comes first. */
-static void refused_prints(const uint8_t *text, size_t length, uint32_t number)
+/* A clean print is refused by this number on each sheet, and without paper. */
+static void refused_prints(const uint8_t *text, size_t length, const size_t rooms[4],
+                           uint32_t number, const char *what)
 {
-    const size_t rooms[] = {0, 1, length < SHEET ? length : SHEET, SHEET};
     size_t written;
     for (size_t i = 0; i < 4; i++)
         check(print_on_sheet(text, length, rooms[i], &written) == number,
-              "number of a refused clean print", "");
+              "number of a refused clean print", what);
     written = SIZE_MAX;
     check(rec_clean_print(text, length, NULL, 0, &written) == number && written == 0,
-          "refused clean print without paper", "");
+          "refused clean print without paper", what);
+}
+
+/* Rooms 0 and 1 are too short for any copy: the linker's number comes first. */
+static void prints_of_refused_text(const uint8_t *text, size_t length, uint32_t number)
+{
+    const size_t rooms[] = {0, 1, length < SHEET ? length : SHEET, SHEET};
+    refused_prints(text, length, rooms, number, "refused text");
 }
 
 static void short_prints(const uint8_t *text, size_t length, size_t copied)
 {
     const size_t rooms[] = {0, 1, copied / 2, copied - 1};
-    size_t written;
-    for (size_t i = 0; i < 4; i++)
-        check(print_on_sheet(text, length, rooms[i], &written) == REC_SHORT_PAPER,
-              "number of a short clean print", "");
-    written = SIZE_MAX;
-    check(rec_clean_print(text, length, NULL, 0, &written) == REC_SHORT_PAPER && written == 0,
-          "short clean print without paper", "");
+    refused_prints(text, length, rooms, REC_SHORT_PAPER, "short paper");
 }
 
 /* The copy comes out where it just fits, and with room left. */
@@ -666,7 +671,7 @@ static void compare_prints(const uint8_t *text, size_t length, uint32_t number)
     if (number == 0)
         accepted_prints(text, length);
     else
-        refused_prints(text, length, number);
+        prints_of_refused_text(text, length, number);
     if (wrong > before && before < 20)
         printf("  clean print of %.*s\n", (int)length, (const char *)text);
 }

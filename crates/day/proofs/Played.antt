@@ -1,15 +1,12 @@
 -- The day over a lent output, step by step.
-use mathlib.Core.Path.{_≡_, refl, sym, ap, _∙_, subst}
-use mathlib.Core.Bool.{true, false, cond}
+use mathlib.Core.Path.{_≡_, refl, sym, ap, _∙_}
 use mathlib.Core.List.{List, [], _∷_, _++_, append-assoc, append-nil}
 use Prim.Native.Nat.{ℕ, _+_, _*_, _-_, _≤_, _<_}
 use native.Mathlib.Omega.{arith}
 use lib.ListN.{length, take, drop, length-append, length-drop, drop-of-length-le}
 use lib.Seq.{paste, take-all, drop-drop, length-take-le}
-use lib.Dec.{leb}
-use borrow.Author.Tests.{le-leb, lt-leb}
-use Rattle.numerals.specs.Numerals.{Written, wrote, written}
-use Rattle.numerals.proofs.Numerals.{written-room, written-two}
+use Rattle.numerals.specs.Numerals.{Written, wrote, written, delivers}
+use Rattle.numerals.proofs.Numerals.{written-room, written-two, delivered-whole, delivered-short}
 use Rattle.book.specs.Store.{Store, storeCall, freshStore}
 use Rattle.commands.specs.Served.{paperBytes}
 use Rattle.console.specs.Day.{maxLines, Progress, starts, dayFrom, dayOf}
@@ -17,7 +14,7 @@ use Rattle.console.specs.Steps.{keptBytes}
 use Rattle.console.specs.Places.{Advanced, Steps, Ends}
 use Rattle.console.proofs.Day.{day-of-store}
 use Rattle.console.proofs.Places.{goes, end-goes}
-use Rattle.day.specs.Played.{shortOutput, Played, plays, played, Prints}
+use Rattle.day.specs.Played.{shortOutput, played, Prints}
 
 -- what was printed of the day of the input i: n bytes, at the start of the output o, which is o′ now; p is where the day is, after so many bytes
 pub record Playing (i o : List ℕ) (p : Progress Store) (at n : ℕ) (o′ : List ℕ) : Type 0 where
@@ -116,14 +113,14 @@ module _ (o a d : List ℕ) (n : ℕ) (none : length a ≡ 0) (count : n ≡ len
       go [] e = refl
       go (x ∷ b) e = absurd (omega arith)
 
-  pub too-short : length (a ++ o) < n → plays shortOutput 0 (a ++ o) ≡ played o d
+  pub too-short : length (a ++ o) < n → delivers shortOutput 0 (a ++ o) ≡ played o d
   too-short h =
       let same = ap length as-it-was in
-      ap (plays shortOutput 0) as-it-was ∙ sym (rw (lt-leb (length d) (length o) (omega arith)))
+      ap (delivers shortOutput 0) as-it-was ∙ delivered-short shortOutput o d (omega arith)
 
-  pub long-enough : (o′ : List ℕ) (m : ℕ) → n ≤ length (a ++ o) → Prints d (a ++ o) o′ m → plays 0 n o′ ≡ played o d
+  pub long-enough : (o′ : List ℕ) (m : ℕ) → n ≤ length (a ++ o) → Prints d (a ++ o) o′ m → delivers 0 n o′ ≡ played o d
   long-enough o′ m h p =
       let same = ap length as-it-was in
       let fits : m ≤ length (a ++ o) = omega (arith, p .count) in
       let e : o′ ≡ paste o 0 d (length d) = p .fits fits ∙ (λ i. paste (as-it-was i) 0 d (p .count i)) in
-      (λ i. plays 0 (count i) (e i)) ∙ sym (rw (le-leb (length d) (length o) (omega arith)))
+      (λ i. delivers 0 (count i) (e i)) ∙ delivered-whole shortOutput o d (omega arith)

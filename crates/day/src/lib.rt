@@ -10,7 +10,8 @@ use language::VARIABLES;
 use numerals::write_bytes;
 ghost use mathlib.Core.Path.{_≡_};
 ghost use Rattle.console.specs.Day.{dayOf};
-ghost use Rattle.day.specs.Played.{plays, played, Prints};
+ghost use Rattle.numerals.specs.Numerals.{delivers};
+ghost use Rattle.day.specs.Played.{played, Prints};
 
 // The output has no room for what the day prints. The number is none of document 01's or 02's.
 pub const SHORT_OUTPUT: u32 = 50;
@@ -58,7 +59,7 @@ fn print(input: &[u8], output: &mut [u8]) -> usize
 // The day of the input at the start of the output; where it does not all fit, the output stays as it was. The day is done twice: first to see how long
 // it is.
 pub fn play(input: &[u8], output: &mut [u8]) -> Written
-    ensures { λ r. ⌜ plays (r .number) (r .count) (now (output .exit)) ≡ played (now (output .entry)) (dayOf (now (input .entry))) ⌝ }
+    ensures { λ r. ⌜ delivers (r .number) (r .count) (now (output .exit)) ≡ played (now (output .entry)) (dayOf (now (input .entry))) ⌝ }
 {
     let count = print(input, &mut output[..0]);
     if output.len() < count {

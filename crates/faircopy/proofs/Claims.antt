@@ -1,6 +1,5 @@
 -- What is claimed of every fair copy is proved.
-use mathlib.Core.Path.{_≡_, refl, sym, ap, _∙_, subst}
-use mathlib.Core.Bool.{Bool, true, false, cond}
+use mathlib.Core.Path.{_≡_, refl, sym, ap, _∙_}
 use mathlib.Core.List.{List, [], _∷_}
 use mathlib.Core.Option.{some, Option·some-injective}
 use Prim.Native.Nat.{ℕ, _≤_}
@@ -10,13 +9,12 @@ use borrow.Author.Tests.{le-leb}
 use Rattle.language.specs.Syntax.{Expr}
 use Rattle.language.specs.Tokens.{idle, tokens}
 use Rattle.language.specs.Reading.{Reading, refused, accepted, read}
-use Rattle.language.specs.Grammar.{Lexeme, spellAll, AllFormed, marksOf, mOpen, marks}
-use Rattle.language.specs.Statements.{Keeps}
+use Rattle.language.specs.Grammar.{spellAll, marksOf, mOpen, marks}
 use Rattle.language.proofs.Grammar.{lexed-marks, reading-sound, reading-complete}
 use Rattle.language.proofs.GrammarMarks.{marksIn, spelled-marks}
 use Rattle.linker.specs.Linked.{linked}
 use Rattle.faircopy.specs.FairCopy.{marksBytes, fairCopy, copyOf, copied}
-use Rattle.faircopy.specs.Claims.{SameExpression, SameTable, CopyOfCopy, NeverLonger, PaperOfText, AllFair, AllCopiesFair}
+use Rattle.faircopy.specs.Claims.{SameExpression, SameTable, CopyOfCopy, NeverLonger, PaperOfText, AllCopiesFair}
 use Rattle.faircopy.proofs.ClaimsLengths.{never-longer as marks-shorter, fair}
 use Rattle.faircopy.proofs.ClaimsSpelling.{Spelling, spelling}
 

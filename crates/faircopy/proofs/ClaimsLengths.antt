@@ -2,19 +2,18 @@
 use mathlib.Core.Path.{_≡_, refl, sym, ap, _∙_}
 use mathlib.Core.Bool.{Bool, true, false}
 use mathlib.Core.List.{List, [], _∷_, _++_, append-assoc}
-use Prim.Native.Nat.{ℕ, zero, suc, _+_, _*_, _-_, _^_, _≤_, _<_}
+use Prim.Native.Nat.{ℕ, zero, suc, _+_, _-_, _≤_}
 use native.Mathlib.Omega.{arith}
-use lib.IntN.{ℤ, pos, negsuc}
+use lib.IntN.{ℤ, pos}
 use lib.ListN.{length, getD, drop, length-append}
 use Rattle.language.specs.Bytes.{quoteByte, dollarByte, tickByte, minusByte, slashByte}
 use Rattle.language.specs.Decimals.{digits, decimal}
 use Rattle.language.specs.Tokens.{signed}
 use Rattle.language.specs.Grammar.{Lexeme, blank, newline, comma, semicolon, colon-sign, point, left, right, comment, print-of, operator-of, variable-of, condition-of, call-of, counter-of, constant-of}
 use Rattle.language.specs.Grammar.{digitBytes, minusSign, spellAll, Digits, valueFrom, AllFormed, marksOf}
-use Rattle.language.proofs.GrammarMarks.{value-bound}
 use Rattle.faircopy.specs.FairCopy.{counterBytes, constantBytes, printBytes, marksBytes}
 use Rattle.faircopy.specs.Claims.{Plain, Signed, AllFair}
-use Rattle.faircopy.proofs.Decimals.{digit-bytes, digit-bytes-length, digits-few, value-few, natural, value-shorter}
+use Rattle.faircopy.proofs.Decimals.{digit-bytes, digit-bytes-length, value-few, natural, value-shorter}
 
 -- ── lengths ─────────────────────────────────────────────────────────────────────────────────────
 

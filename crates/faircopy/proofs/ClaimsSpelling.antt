@@ -2,24 +2,23 @@
 use mathlib.Core.Path.{_≡_, refl, sym, ap, _∙_}
 use mathlib.Core.Bool.{Bool, true, false}
 use mathlib.Core.List.{List, [], _∷_, _++_, append-assoc}
-use Prim.Native.Nat.{ℕ, zero, suc, _+_, _-_, _%_, _^_, _≤_, _<_}
+use Prim.Native.Nat.{ℕ, zero, suc, _+_, _-_, _^_, _≤_, _<_}
 use native.Mathlib.Omega.{arith}
 use lib.Dec.{ltb}
 use lib.IntN.{ℤ, pos, negsuc}
 use lib.ListN.{length}
 use borrow.Author.Tests.{leb-true, ltb-true, ltb-false}
-use Rattle.language.specs.Bytes.{dollarByte, tickByte, minusByte, slashByte, digitByte}
+use Rattle.language.specs.Bytes.{dollarByte, tickByte, minusByte, slashByte}
 use Rattle.language.specs.Decimals.{digits, decimal}
 use Rattle.language.specs.Limits.{maxVariables, maxValue}
 use Rattle.language.specs.Values.{isValue}
-use Rattle.language.specs.Syntax.{Operation, operator, variable, constant, print, condition, counter}
-use Rattle.language.specs.Tokens.{signed, digitCell, counterForm, constantForm}
+use Rattle.language.specs.Syntax.{operator, variable, constant, print, condition, counter}
+use Rattle.language.specs.Tokens.{signed, digitCell, constantForm}
 use Rattle.language.specs.Grammar.{Lexeme, semicolon, colon-sign, left, right, print-of, operator-of, variable-of, condition-of, call-of, counter-of, constant-of}
-use Rattle.language.specs.Grammar.{digitBytes, minusSign, spell, spellAll, Digits, valueFrom, Number, Formed, AllFormed, marksOf}
+use Rattle.language.specs.Grammar.{digitBytes, minusSign, spell, spellAll, valueFrom, Number, Formed, AllFormed, marksOf}
 use Rattle.language.specs.Grammar.{Mark, mOpen, mClose, mSemi, mColon, mOperation, mPredicate, mCall}
-use Rattle.language.proofs.GrammarFormed.{FormedOperation}
 use Rattle.language.proofs.GrammarMarks.{FormedMarks}
-use Rattle.faircopy.specs.FairCopy.{variableDigit, constantBytes, markBytes, marksBytes}
+use Rattle.faircopy.specs.FairCopy.{variableDigit, markBytes, marksBytes}
 use Rattle.faircopy.proofs.Decimals.{digit-bytes, digit-bytes-length, Spelled, spelled, digits-few, natural}
 
 -- lexemes of the marks ms, whose counters are in order from c, with the bytes of their fair copy

@@ -5,7 +5,6 @@ use Prim.Native.Nat.{ℕ, _+_, _≤_, _<_}
 use native.Mathlib.Omega.{arith}
 use lib.ListN.{length, take}
 use lib.Seq.{paste, take-length, take-paste, length-paste}
-use borrow.Author.Tests.{le-leb, lt-leb}
 use Rattle.language.specs.Limits.{maxText}
 use Rattle.language.specs.Syntax.{Expr}
 use Rattle.language.specs.Reading.{Reading, refused, accepted, read}
@@ -13,19 +12,19 @@ use Rattle.language.proofs.Answers.{refusal-not-zero}
 use Rattle.language.proofs.Grammar.{reading-sound}
 use Rattle.linker.specs.declared.Linked.{Linked}
 use Rattle.linker.specs.Linked.{linked}
-use Rattle.numerals.specs.Numerals.{Written, wrote, written}
-use Rattle.numerals.proofs.Numerals.{written-room}
-use Rattle.faircopy.specs.FairCopy.{fairCopy, shortPaper, answers, copied}
+use Rattle.numerals.specs.Numerals.{Written, wrote, written, delivers}
+use Rattle.numerals.proofs.Numerals.{written-room, delivered-whole, delivered-short}
+use Rattle.faircopy.specs.FairCopy.{fairCopy, shortPaper, copied}
 use Rattle.faircopy.specs.Steps.{Copies}
 use Rattle.faircopy.proofs.Claims.{copy-shorter}
 
 -- what the linker says of the text s
 module _ (s : List ℕ) (l : Linked) (e : l ≡ linked (read s)) where
-  pub refused-answer : (p : List ℕ) → (l .number ≡ 0 → ⊥) → answers (l .number) 0 p ≡ copied p (read s)
+  pub refused-answer : (p : List ℕ) → (l .number ≡ 0 → ⊥) → delivers (l .number) 0 p ≡ copied p (read s)
   refused-answer p n = go (read s) refl
     where
-      go : (r : Reading) → read s ≡ r → answers (l .number) 0 p ≡ copied p r
-      go (refused f) h = ap (λ (x : Linked). answers (x .number) 0 p) (e ∙ ap linked h)
+      go : (r : Reading) → read s ≡ r → delivers (l .number) 0 p ≡ copied p r
+      go (refused f) h = ap (λ (x : Linked). delivers (x .number) 0 p) (e ∙ ap linked h)
       go (accepted w) h = absurd (n (ap (λ (x : Linked). x .number) (e ∙ ap linked h)))
 
   -- it is accepted, and 256 bytes are enough for it
@@ -63,13 +62,13 @@ module _ (s o : List ℕ) (c : Copies s o) (n : ℕ) (o′ : List ℕ)
       ∙ take-paste o 0 fc (length fc) (omega (arith, shorter)) (omega arith)
       ∙ take-length fc
 
-  pub short-paper : (p : List ℕ) → length p < n → answers shortPaper 0 p ≡ copied p (read s)
+  pub short-paper : (p : List ℕ) → length p < n → delivers shortPaper 0 p ≡ copied p (read s)
   short-paper p h =
-      sym (ap (copied p) (c .reads) ∙ rw (lt-leb (length fc) (length p) (omega (arith, counted))))
+      delivered-short shortPaper p fc (omega (arith, counted)) ∙ sym (ap (copied p) (c .reads))
 
-  pub on-paper : (p p′ : List ℕ) (r : ℕ) → n ≤ length p → wrote r p′ ≡ written p 0 (take n o′) → answers 0 n p′ ≡ copied p (read s)
+  pub on-paper : (p p′ : List ℕ) (r : ℕ) → n ≤ length p → wrote r p′ ≡ written p 0 (take n o′) → delivers 0 n p′ ≡ copied p (read s)
   on-paper p p′ r h e =
       let g : length fc ≤ length p = omega (arith, counted) in
       let b : p′ ≡ paste p 0 fc (length fc) =
       ap (λ (x : Written). x .buffer) (e ∙ ap (written p 0) bytes ∙ sym (written-room p 0 fc (omega arith))) in
-      (λ i. answers 0 (counted i) (b i)) ∙ sym (ap (copied p) (c .reads) ∙ rw (le-leb (length fc) (length p) g))
+      (λ i. delivers 0 (counted i) (b i)) ∙ delivered-whole shortPaper p fc g ∙ sym (ap (copied p) (c .reads))

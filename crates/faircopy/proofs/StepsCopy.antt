@@ -6,6 +6,7 @@ use Prim.Native.Nat.{ℕ, zero, suc, _+_, _*_, _≤_, _<_}
 use native.Mathlib.Omega.{arith}
 use lib.IntN.{pos}
 use lib.ListN.{length, take, drop, length-append}
+use lib.Dec.{leb}
 use borrow.Author.Tests.{eq-eqb, ne-eqb, le-leb, lt-leb}
 use Rattle.language.specs.Bytes.{quoteByte, dollarByte, tickByte, minusByte, slashByte, digitByte}
 use Rattle.language.specs.Letters.{letterByte}
@@ -35,16 +36,35 @@ take-past : (b r : List ℕ) (z : ℕ) → take (suc (length b)) (b ++ z ∷ r) 
 take-past [] r z = refl
 take-past (x ∷ b) r z = ap (λ (l : List ℕ). x ∷ l) (take-past b r z)
 
-drop-digits : (ds r : List ℕ) (z : ℕ) → drop (suc (length ds)) (digitBytes ds (z ∷ r)) ≡ r
-drop-digits [] r z = refl
-drop-digits (d ∷ ds) r z = drop-digits ds r z
-
 -- the first z is after the bytes of a form that has none
 reach-past : (z : ℕ) (p : ℕ → Bool) → p z ≡ false → (b r : List ℕ) → AllBytes p b → reach z (b ++ z ∷ r) ≡ suc (length b)
 reach-past z p n [] r h = rw (eq-eqb z z refl)
 reach-past z p n (x ∷ b) r h =
     let m : x ≡ z → ⊥ = λ e. false≢true (sym n ∙ ap p (sym e) ∙ h .0) in
     rw (ne-eqb x z m) (ap suc (reach-past z p n b r (h .1)))
+
+through-past : (z : ℕ) (p : ℕ → Bool) → p z ≡ false → (b r : List ℕ) → AllBytes p b → throughStep z (b ++ z ∷ r) ≡ takes (suc (length b)) (b ++ z ∷ [])
+through-past z p n b r h =
+    ap (λ (k : ℕ). takes k (take k (b ++ z ∷ r))) (reach-past z p n b r h) ∙ ap (takes (suc (length b))) (take-past b r z)
+
+-- ── digits ──────────────────────────────────────────────────────────────────────────────────────
+
+-- the bytes of digits are as many, and none is below `0`
+digits-as-many : (ds : List ℕ) → length (digitBytes ds []) ≡ length ds
+digits-as-many ds = let e = digit-bytes-length ds [] in omega arith
+
+digits-high : (ds : List ℕ) → AllBytes (leb (digitByte 0)) (digitBytes ds [])
+digits-high [] = tt
+digits-high (d ∷ ds) = (le-leb (digitByte 0) (digitByte d) (omega arith), digits-high ds)
+
+drop-digits : (ds r : List ℕ) (z : ℕ) → drop (suc (length ds)) (digitBytes ds (z ∷ r)) ≡ r
+drop-digits ds r z = (λ i. drop (suc (sym (digits-as-many ds) i)) (digit-bytes ds [] (z ∷ r) i)) ∙ drop-past (digitBytes ds []) r z
+
+through-digits : (z : ℕ) (ds r : List ℕ) → z < digitByte 0 → throughStep z (digitBytes ds (z ∷ r)) ≡ takes (suc (length ds)) (digitBytes ds (z ∷ []))
+through-digits z ds r n =
+    ap (throughStep z) (digit-bytes ds [] (z ∷ r))
+    ∙ through-past z (leb (digitByte 0)) (lt-leb (digitByte 0) z n) (digitBytes ds []) r (digits-high ds)
+    ∙ (λ i. takes (suc (digits-as-many ds i)) (sym (digit-bytes ds [] (z ∷ [])) i))
 
 -- ── a byte as it stands ─────────────────────────────────────────────────────────────────────────
 
@@ -127,18 +147,6 @@ stripped z r (zero ∷ e ∷ ds) n h l =
 stripped z r (suc d ∷ e ∷ ds) n h l = stays z r (suc d ∷ e ∷ ds) (rw (ne-eqb (digitByte (suc d)) (digitByte 0) (λ x. omega arith))) h (omega arith) l
 
 -- ── a number or a print ─────────────────────────────────────────────────────────────────────────
-
-reach-digits : (z : ℕ) (ds r : List ℕ) → z < digitByte 0 → reach z (digitBytes ds (z ∷ r)) ≡ suc (length ds)
-reach-digits z [] r n = rw (eq-eqb z z refl)
-reach-digits z (d ∷ ds) r n = rw (ne-eqb (digitByte d) z (λ e. omega arith)) (ap suc (reach-digits z ds r n))
-
-take-digits : (z : ℕ) (ds r : List ℕ) → take (suc (length ds)) (digitBytes ds (z ∷ r)) ≡ digitBytes ds (z ∷ [])
-take-digits z [] r = refl
-take-digits z (d ∷ ds) r = ap (λ (l : List ℕ). digitByte d ∷ l) (take-digits z ds r)
-
-through-digits : (z : ℕ) (ds r : List ℕ) → z < digitByte 0 → throughStep z (digitBytes ds (z ∷ r)) ≡ takes (suc (length ds)) (digitBytes ds (z ∷ []))
-through-digits z ds r n =
-    ap (λ (k : ℕ). takes k (take k (digitBytes ds (z ∷ r)))) (reach-digits z ds r n) ∙ ap (takes (suc (length ds))) (take-digits z ds r)
 
 -- the digits that are copied, as decimals
 module _ (z : ℕ) (r ds : List ℕ) (s : Stripped z r ds) (m : length ds ≤ maxDigits) where
@@ -231,8 +239,8 @@ step-print : (b r : List ℕ) → AllBytes printByte b → stepOf tickByte (tick
 unfolding stepOf tickStep
 step-print b r h =
     let e : 1 + (1 + suc (length b)) ≡ suc (suc (suc (length b))) = omega arith in
-    ap (λ (n : ℕ). takes (1 + (1 + n)) (tickByte ∷ tickByte ∷ take n (b ++ tickByte ∷ r))) (reach-past tickByte printByte refl b r h)
-    ∙ (λ i. takes (e i) (tickByte ∷ tickByte ∷ take-past b r tickByte i))
+    ap (λ x. after 1 (after 1 (prefixed (tickByte ∷ tickByte ∷ []) x))) (through-past tickByte printByte refl b r h)
+    ∙ ap (λ (n : ℕ). takes n (printBytes b)) e
 
 step-comment : (b r : List ℕ) → AllBytes commentByte b → stepOf quoteByte (b ++ quoteByte ∷ r) ≡ takes (suc (suc (length b))) []
 unfolding stepOf

@@ -45,8 +45,8 @@ steps-here : (s : List ℕ) (from n : ℕ) → from < length s → 1 ≤ n → s
 steps-here s from zero h k = absurd (omega arith)
 steps-here s from (suc n) h k =
     let e : n ≡ suc n - 1 = omega arith in
-    ap (steps (suc n)) (at-place s from 0 h)
-    ∙ ap (λ (l : List ℕ). here s from .bytes ++ steps n (drop (here s from .taken) l)) (sym (at-place s from 0 h))
+    ap (steps (suc n)) (at-place s from h)
+    ∙ ap (λ (l : List ℕ). here s from .bytes ++ steps n (drop (here s from .taken) l)) (sym (at-place s from h))
     ∙ (λ i. here s from .bytes ++ steps (e i) (drop-drop (here s from .taken) from s i))
 
 -- ── the loop ────────────────────────────────────────────────────────────────────────────────────

@@ -18,18 +18,18 @@ use Rattle.faircopy.proofs.Written.{nothing-written}
 
 -- ── the place after a byte ──────────────────────────────────────────────────────────────────────
 
-module _ (s : List ℕ) (i z : ℕ) where
-  -- the bytes from a place on
-  pub at-place : i < length s → drop i s ≡ getD s i 0 ∷ drop (i + 1) s
-  at-place h = drop-cons s i 0 h ∙ ap (λ (n : ℕ). getD s i 0 ∷ drop n s) (sym (add-one i))
+-- the bytes from a place on
+pub at-place : (s : List ℕ) (i : ℕ) → i < length s → drop i s ≡ getD s i 0 ∷ drop (i + 1) s
+at-place s i h = drop-cons s i 0 h ∙ ap (λ (n : ℕ). getD s i 0 ∷ drop n s) (sym (add-one i))
 
+module _ (s : List ℕ) (i z : ℕ) where
   pub reach-found : i < length s → getD s i 0 ≡ z → i + 1 ≡ i + reach z (drop i s)
-  reach-found h e = sym (ap (λ (l : List ℕ). i + reach z l) (at-place h) ∙ rw (eq-eqb (getD s i 0) z e))
+  reach-found h e = sym (ap (λ (l : List ℕ). i + reach z l) (at-place s i h) ∙ rw (eq-eqb (getD s i 0) z e))
 
   pub reach-more : i < length s → (getD s i 0 ≡ z → ⊥) → i + 1 + reach z (drop (i + 1) s) ≡ i + reach z (drop i s)
   reach-more h n =
       let e : i + suc (reach z (drop (i + 1) s)) ≡ i + 1 + reach z (drop (i + 1) s) = omega arith in
-      sym (ap (λ (l : List ℕ). i + reach z l) (at-place h) ∙ rw (ne-eqb (getD s i 0) z n) e)
+      sym (ap (λ (l : List ℕ). i + reach z l) (at-place s i h) ∙ rw (ne-eqb (getD s i 0) z n) e)
 
   pub reach-end : length s ≤ i → i ≡ i + reach z (drop i s)
   reach-end h = let e : i + 0 ≡ i = omega arith in sym (ap (λ (l : List ℕ). i + reach z l) (drop-of-length-le s h) ∙ e)
@@ -76,7 +76,7 @@ module _ (s : List ℕ) (from z : ℕ) (o : List ℕ) (at : ℕ) (h : Fits (thro
       both t e = written-two o at (q .bytes) one (q .buffer) w (omega (arith, room t e))
 
       found-bytes : getD s i 0 ≡ z → throughStep z (drop i s) .bytes ≡ getD s i 0 ∷ []
-      found-bytes e = ap (λ (x : List ℕ). take (reach z x) x) (at-place s i z inside) ∙ rw (eq-eqb (getD s i 0) z e)
+      found-bytes e = ap (λ (x : List ℕ). take (reach z x) x) (at-place s i inside) ∙ rw (eq-eqb (getD s i 0) z e)
 
       pub through-found : getD s i 0 ≡ z → Moves (throughStep z (drop from s)) from at o o″ (record { from = i + 1; at = r })
       through-found e =
@@ -86,7 +86,7 @@ module _ (s : List ℕ) (from z : ℕ) (o : List ℕ) (at : ℕ) (h : Fits (thro
           }
 
       more-bytes : (getD s i 0 ≡ z → ⊥) → throughStep z (drop i s) .bytes ≡ getD s i 0 ∷ throughStep z (drop (i + 1) s) .bytes
-      more-bytes e = ap (λ (x : List ℕ). take (reach z x) x) (at-place s i z inside) ∙ rw (ne-eqb (getD s i 0) z e)
+      more-bytes e = ap (λ (x : List ℕ). take (reach z x) x) (at-place s i inside) ∙ rw (ne-eqb (getD s i 0) z e)
 
       pub through-more : (getD s i 0 ≡ z → ⊥) → length o″ ≡ length o′ → Through s from z o at (i + 1) r o″
       through-more e l =
@@ -113,12 +113,12 @@ module _ (s : List ℕ) (i : ℕ) where
     pub zeros-other : (getD s i 0 ≡ digitByte 0 → ⊥) → i ≡ i + zeros (drop i s)
     zeros-other n =
         let e : i + 0 ≡ i = omega arith in
-        sym (ap (λ (l : List ℕ). i + zeros l) (at-place s i 0 inside) ∙ rw (ne-eqb (getD s i 0) (digitByte 0) n) e)
+        sym (ap (λ (l : List ℕ). i + zeros l) (at-place s i inside) ∙ rw (ne-eqb (getD s i 0) (digitByte 0) n) e)
 
     -- a 0 stands there
     module _ (z : getD s i 0 ≡ digitByte 0) where
       by-next : zeros (drop i s) ≡ cond (isMore (drop (i + 1) s)) (suc (zeros (drop (i + 1) s))) 0
-      by-next = ap zeros (at-place s i 0 inside) ∙ rw (eq-eqb (getD s i 0) (digitByte 0) z)
+      by-next = ap zeros (at-place s i inside) ∙ rw (eq-eqb (getD s i 0) (digitByte 0) z)
 
       pub zeros-last : length s ≤ i + 1 → i ≡ i + zeros (drop i s)
       zeros-last h =
@@ -126,7 +126,7 @@ module _ (s : List ℕ) (i : ℕ) where
           omega arith
 
       more-is : i + 1 < length s → isMore (drop (i + 1) s) ≡ leb (digitByte 0) (getD s (i + 1) 0)
-      more-is h = ap isMore (at-place s (i + 1) 0 h)
+      more-is h = ap isMore (at-place s (i + 1) h)
 
       pub zeros-lone : i + 1 < length s → getD s (i + 1) 0 < digitByte 0 → i ≡ i + zeros (drop i s)
       zeros-lone h n =
@@ -149,10 +149,10 @@ module _ (s : List ℕ) (i : ℕ) where
   sign-end h = ap (signBytes true) (drop-of-length-le s h)
 
   pub sign-zero : i < length s → getD s i 0 ≡ digitByte 0 → signBytes true (drop i s) ≡ []
-  sign-zero h e = ap (signBytes true) (at-place s i 0 h) ∙ rw (eq-eqb (getD s i 0) (digitByte 0) e)
+  sign-zero h e = ap (signBytes true) (at-place s i h) ∙ rw (eq-eqb (getD s i 0) (digitByte 0) e)
 
   pub sign-minus : i < length s → (getD s i 0 ≡ digitByte 0 → ⊥) → signBytes true (drop i s) ≡ minusByte ∷ []
-  sign-minus h e = ap (signBytes true) (at-place s i 0 h) ∙ rw (ne-eqb (getD s i 0) (digitByte 0) e)
+  sign-minus h e = ap (signBytes true) (at-place s i h) ∙ rw (ne-eqb (getD s i 0) (digitByte 0) e)
 
 -- ── one step as part of another ─────────────────────────────────────────────────────────────────
 
@@ -189,14 +189,14 @@ module _ (s : List ℕ) (from : ℕ) where
 
   pub constant-minus : from < length s → getD s from 0 ≡ minusByte → constantStep (drop from s) ≡ after 1 (digitsStep true (drop (from + 1) s))
   unfolding constantStep
-  constant-minus h m = ap constantStep (at-place s from 0 h) ∙ rw (eq-eqb (getD s from 0) minusByte m)
+  constant-minus h m = ap constantStep (at-place s from h) ∙ rw (eq-eqb (getD s from 0) minusByte m)
 
   pub constant-plain : from < length s → (getD s from 0 ≡ minusByte → ⊥) → constantStep (drop from s) ≡ digitsStep false (drop from s)
   unfolding constantStep
   constant-plain h n =
-      ap constantStep (at-place s from 0 h)
+      ap constantStep (at-place s from h)
       ∙ ap (λ u. cond u (after 1 (digitsStep true (drop (from + 1) s))) (digitsStep false (getD s from 0 ∷ drop (from + 1) s))) (ne-eqb (getD s from 0) minusByte n)
-      ∙ ap (digitsStep false) (sym (at-place s from 0 h))
+      ∙ ap (digitsStep false) (sym (at-place s from h))
 
   pub tick-none : length s ≤ from → tickStep (drop from s) ≡ takes 0 []
   unfolding tickStep
@@ -204,12 +204,12 @@ module _ (s : List ℕ) (from : ℕ) where
 
   pub tick-constant : from < length s → getD s from 0 ≡ slashByte → tickStep (drop from s) ≡ after 1 (constantStep (drop (from + 1) s))
   unfolding tickStep
-  tick-constant h m = ap tickStep (at-place s from 0 h) ∙ rw (eq-eqb (getD s from 0) slashByte m)
+  tick-constant h m = ap tickStep (at-place s from h) ∙ rw (eq-eqb (getD s from 0) slashByte m)
 
   pub tick-print : from < length s → (getD s from 0 ≡ slashByte → ⊥)
       → tickStep (drop from s) ≡ after 1 (prefixed (tickByte ∷ tickByte ∷ []) (throughStep tickByte (drop (from + 1) s)))
   unfolding tickStep
-  tick-print h n = ap tickStep (at-place s from 0 h) ∙ rw (ne-eqb (getD s from 0) slashByte n)
+  tick-print h n = ap tickStep (at-place s from h) ∙ rw (ne-eqb (getD s from 0) slashByte n)
 
 -- ── any byte ────────────────────────────────────────────────────────────────────────────────────
 

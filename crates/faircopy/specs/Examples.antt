@@ -7,7 +7,8 @@ use mathlib.Core.Option.{some}
 use lib.ListN.{replicate}
 use Rattle.language.specs.Trials.{bytes}
 use Rattle.language.specs.Reading.{read}
-use Rattle.faircopy.specs.FairCopy.{copyOf, Answer, answers, copied}
+use Rattle.numerals.specs.Numerals.{Delivery, delivers}
+use Rattle.faircopy.specs.FairCopy.{copyOf, copied}
 
 -- a text and its copy
 pub record Trial : Type 0 where
@@ -40,7 +41,7 @@ abbrev pub paper : ℕ → List ℕ
 paper n = replicate n 9
 
 -- `( )` on papers of four bytes, two, one and none; a text without a copy on a long paper and on none
-abbrev pub papers : List Answer
+abbrev pub papers : List Delivery
 papers =
     copied (paper 4) (read (bytes "( )"))
     ∷ copied (paper 2) (read (bytes "( )"))
@@ -51,14 +52,14 @@ papers =
     ∷ []
 
 -- the bytes past the copy stay; where there is none, its number, no length, and the paper as it was
-abbrev pub papersLeft : List Answer
+abbrev pub papersLeft : List Delivery
 papersLeft =
-    answers 0 2 (40 ∷ 41 ∷ 9 ∷ 9 ∷ [])
-    ∷ answers 0 2 (40 ∷ 41 ∷ [])
-    ∷ answers 30 0 (9 ∷ [])
-    ∷ answers 30 0 []
-    ∷ answers 3 0 (9 ∷ 9 ∷ 9 ∷ 9 ∷ [])
-    ∷ answers 7 0 []
+    delivers 0 2 (40 ∷ 41 ∷ 9 ∷ 9 ∷ [])
+    ∷ delivers 0 2 (40 ∷ 41 ∷ [])
+    ∷ delivers 30 0 (9 ∷ [])
+    ∷ delivers 30 0 []
+    ∷ delivers 3 0 (9 ∷ 9 ∷ 9 ∷ 9 ∷ [])
+    ∷ delivers 7 0 []
     ∷ []
 
 -- proofs/Examples `papers-hold`

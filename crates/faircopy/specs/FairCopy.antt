@@ -1,13 +1,9 @@
 -- Document 02, U1: the fair copy of a text, and what a call leaves on the lent paper.
 use Prim.Native.Nat.{ℕ, suc, _%_}
 use Rattle.language.specs.Limits.{maxVariables}
-use mathlib.Core.Bool.{cond}
 use mathlib.Core.List.{List, [], _∷_, _++_}
 use mathlib.Core.Option.{Option, none, some}
 use lib.IntN.{ℤ, pos}
-use lib.ListN.{length}
-use lib.Seq.{paste}
-use lib.Dec.{leb}
 use Rattle.language.specs.Answers.{refusalNumber}
 use Rattle.language.specs.Bytes.{dollarByte, tickByte, openByte, closeByte, slashByte, digitByte, colonByte, semicolonByte}
 use Rattle.language.specs.Letters.{letterByte}
@@ -15,6 +11,7 @@ use Rattle.language.specs.Decimals.{decimal}
 use Rattle.language.specs.Syntax.{operatorByte, accessByte, conditionByte, Operation, operator, variable, constant, print, Predicate, condition, counter, Expr}
 use Rattle.language.specs.Grammar.{Mark, mOpen, mClose, mSemi, mColon, mOperation, mPredicate, mCall, marks}
 use Rattle.language.specs.Reading.{Reading, refused, accepted}
+use Rattle.numerals.specs.Numerals.{Delivery, delivers, delivered}
 use Rattle.faircopy.specs.declared.Copied.{Copied}
 use Rattle.faircopy.specs.declared.Copied.the-variants.{Whole, Refused, ShortPaper}
 
@@ -90,21 +87,8 @@ lengthOf (Whole n) = n
 lengthOf (Refused n) = 0
 lengthOf ShortPaper = 0
 
--- What a call leaves: its number, the copy's length, and the paper.
-pub record Answer : Type 0 where
-  pub number : ℕ
-  pub length : ℕ
-  pub paper : List ℕ
-
--- these three together
-abbrev pub answers : ℕ → ℕ → List ℕ → Answer
-answers n k p = record { number = n; length = k; paper = p }
-
--- the copy c on the paper p; "bytes past it .. keep their content"
-abbrev pub onPaper : List ℕ → List ℕ → Answer
-onPaper p c = cond (leb (length c) (length p)) (answers 0 (length c) (paste p 0 c (length c))) (answers shortPaper 0 p)
-
--- "Linker refusals apply first." "and the whole buffer on refusal"
-abbrev pub copied : List ℕ → Reading → Answer
-copied p (refused r) = answers (refusalNumber r) 0 p
-copied p (accepted w) = onPaper p (fairCopy w)
+-- What a call leaves: its number, the copy's length, and the paper p. "Linker refusals apply first." "bytes past it, and the whole buffer on refusal, keep
+-- their content"
+abbrev pub copied : List ℕ → Reading → Delivery
+copied p (refused r) = delivers (refusalNumber r) 0 p
+copied p (accepted w) = delivered shortPaper p (fairCopy w)

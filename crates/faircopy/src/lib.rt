@@ -5,8 +5,8 @@ ghost use Prim.Native.Nat.{_+_, _≤_};
 ghost use lib.ListN.{length, getD, drop};
 ghost use Rattle.language.specs.Syntax.{Expr};
 ghost use Rattle.language.specs.Reading.{accepted, read};
-ghost use Rattle.numerals.specs.Numerals.{wrote, written};
-ghost use Rattle.faircopy.specs.FairCopy.{fairCopy, numberOf, lengthOf, answers, copied};
+ghost use Rattle.numerals.specs.Numerals.{wrote, written, delivers};
+ghost use Rattle.faircopy.specs.FairCopy.{fairCopy, numberOf, lengthOf, copied};
 ghost use Rattle.faircopy.specs.Steps.{reach, zeros, throughStep, counterStep, signBytes, digitsStep, constantStep, tickStep, stepOf, Moves, Fits, Stands, Copies};
 use language::TEXT;
 use linker::link;
@@ -234,7 +234,7 @@ fn copy_text(text: &[u8], out: &mut [u8]) -> usize
 // The fair copy of a text at the start of the paper, whose other bytes stay as they were. Where the text is refused, or the copy does not all fit, the
 // paper stays as it was.
 pub fn fair_copy(text: &[u8], paper: &mut [u8]) -> Copied
-    ensures { λ r. ⌜ answers (numberOf r) (lengthOf r) (now (paper .exit)) ≡ copied (now (paper .entry)) (read (now (text .entry))) ⌝ }
+    ensures { λ r. ⌜ delivers (numberOf r) (lengthOf r) (now (paper .exit)) ≡ copied (now (paper .entry)) (read (now (text .entry))) ⌝ }
 {
     let l = link(text);
     if l.number != 0 {

@@ -14,7 +14,7 @@ use Rattle.language.specs.Decimals.{maxDigits, justified}
 use Rattle.language.specs.Bytes.{blankByte, digitByte, isDigit}
 use Rattle.language.specs.Grammar.{Digits, digitBytes, valueFrom}
 use Rattle.numerals.specs.declared.Numeral.{Numeral}
-use Rattle.numerals.specs.Numerals.{DigitsAt, Reads, Written, wrote, written, maxColumns, Ends}
+use Rattle.numerals.specs.Numerals.{DigitsAt, Reads, Written, wrote, written, delivers, delivered, maxColumns, Ends}
 use Rattle.language.proofs.Copies.{Pasting, pasting-done}
 use Rattle.numerals.proofs.Decimals.{ends-length}
 
@@ -122,6 +122,14 @@ module _ (o : List ℕ) (at : ℕ) (b : List ℕ) where
   pub written-no-room : leb (at + length b) (length o) ≡ false → wrote at o ≡ written o at b
   unfolding written
   written-no-room e = sym (rw e)
+
+-- the same over a whole buffer, as a call leaves it
+module _ (short : ℕ) (o b : List ℕ) where
+  pub delivered-whole : length b ≤ length o → delivers 0 (length b) (paste o 0 b (length b)) ≡ delivered short o b
+  delivered-whole h = sym (rw (le-leb (length b) (length o) h))
+
+  pub delivered-short : length o < length b → delivers short 0 o ≡ delivered short o b
+  delivered-short h = sym (rw (lt-leb (length b) (length o) h))
 
 -- all bytes b are copied to a place of the buffer o
 pub pasted : (o : List ℕ) (at : ℕ) (b out : List ℕ) (i : ℕ) → Pasting o at b (length b) out i → length b ≤ i → wrote (at + i) out ≡ written o at b

@@ -52,6 +52,25 @@ wrote n o = record { next = n; buffer = o }
 unfoldable pub written : List ℕ → ℕ → List ℕ → Written
 written o at b = cond (leb (at + length b) (length o)) (wrote (at + length b) (paste o at b (length b))) (wrote at o)
 
+-- ── delivered ───────────────────────────────────────────────────────────────────────────────────
+
+-- What a call that writes bytes into a lent buffer leaves: its number, how many it wrote, and the buffer.
+pub record Delivery : Type 0 where
+  pub number : ℕ
+  pub length : ℕ
+  pub buffer : List ℕ
+
+-- these three together
+abbrev pub delivers : ℕ → ℕ → List ℕ → Delivery
+delivers n k o = record { number = n; length = k; buffer = o }
+
+-- The bytes b for the buffer o: 0 and all of them at its start, the bytes past them as they were; or, where they do not all fit, the number `short`
+-- alone, and the buffer as it was.
+abbrev pub delivered : ℕ → List ℕ → List ℕ → Delivery
+delivered short o b = cond (leb (length b) (length o)) (delivers 0 (length b) (paste o 0 b (length b))) (delivers short 0 o)
+
+-- ── columns ─────────────────────────────────────────────────────────────────────────────────────
+
 -- the columns that a number is rendered in: a `-` and ten digits fit
 abbrev pub maxColumns : ℕ
 maxColumns = writeWidth

@@ -5,11 +5,12 @@ ghost use lib.Seq.{paste};
 ghost use Rattle.language.specs.Limits.{maxCells};
 ghost use Rattle.language.specs.Reading.{read};
 ghost use Rattle.linker.specs.Linked.{linked};
-ghost use Rattle.faircopy.specs.FairCopy.{answers, copied};
+ghost use Rattle.numerals.specs.Numerals.{delivers};
+ghost use Rattle.faircopy.specs.FairCopy.{copied};
 ghost use Rattle.book.specs.Calls.{defines, withdraws, running};
 ghost use Rattle.book.specs.Store.{storeOf, freshStore, storeCall, told};
 ghost use Rattle.console.specs.Day.{dayOf};
-ghost use Rattle.day.specs.Played.{plays, played};
+ghost use Rattle.day.specs.Played.{played};
 ghost use Rattle.rec.specs.Doors.{truthFigure, opens, opened, hands, handed, Copies};
 use language::LETTERS;
 use language::STORE_CELLS;
@@ -153,7 +154,7 @@ pub extern "C" fn rec_link(text: &[u8], cells: &mut [i32], used: &mut usize) -> 
 // paper stays as it was.
 #[no_mangle]
 pub extern "C" fn rec_fair_copy(text: &[u8], paper: &mut [u8], written: &mut usize) -> u32
-    ensures { λ r. ⌜ answers r (now (written .exit)) (now (paper .exit)) ≡ copied (now (paper .entry)) (read (now (text .entry))) ⌝ }
+    ensures { λ r. ⌜ delivers r (now (written .exit)) (now (paper .exit)) ≡ copied (now (paper .entry)) (read (now (text .entry))) ⌝ }
 {
     let c = faircopy::fair_copy(text, paper);
     *written = c.length();
@@ -166,7 +167,7 @@ pub extern "C" fn rec_fair_copy(text: &[u8], paper: &mut [u8], written: &mut usi
 // number of a short output and 0, and the output stays as it was.
 #[no_mangle]
 pub extern "C" fn rec_day(input: &[u8], output: &mut [u8], written: &mut usize) -> u32
-    ensures { λ r. ⌜ plays r (now (written .exit)) (now (output .exit)) ≡ played (now (output .entry)) (dayOf (now (input .entry))) ⌝ }
+    ensures { λ r. ⌜ delivers r (now (written .exit)) (now (output .exit)) ≡ played (now (output .entry)) (dayOf (now (input .entry))) ⌝ }
 {
     let w = day::play(input, output);
     *written = w.count;

@@ -3,7 +3,6 @@ use mathlib.Core.Path.{_≡_}
 use Prim.Native.Nat.{_-_}
 use native.Mathlib.Omega.{arith}
 use lib.ListN.{length}
-use borrow.Author.Needs.{needs}
 use Rattle.language.specs.Syntax.{Expr}
 use Rattle.language.specs.Reading.{accepted, read}
 use Rattle.faircopy.proofs.StepsLoop.{Copying, copying-none, copying-stands, copying-further, copying-more, copying-done}

@@ -1,6 +1,5 @@
 -- `fair_copy` meets its contract.
 use mathlib.Core.Path.{refl, sym}
-use native.Mathlib.Omega.{arith}
 use lib.ListN.{replicate}
 use lib.Seq.{length-take-le}
 use denote.Ref.{now}

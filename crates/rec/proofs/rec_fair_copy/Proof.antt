@@ -3,13 +3,13 @@ use mathlib.Core.Path.{_≡_, _∙_}
 use mathlib.Core.List.{List}
 use Prim.Native.Nat.{ℕ}
 use borrow.Author.Needs.{needs}
-use Rattle.faircopy.specs.FairCopy.{Answer, answers}
+use Rattle.numerals.specs.Numerals.{Delivery, delivers}
 use Rattle.rec.proofs.rec_fair_copy.Statement.{statement}
 use Rattle.rec.proofs.rec_fair_copy.Tie as tie
 
 -- the number and the length as they are handed on
-handed-on : {n m k l : ℕ} {p : List ℕ} {a : Answer} → n ≡ m → k ≡ l → answers m l p ≡ a → answers n k p ≡ a
-handed-on {p = p} e f h = (λ i. answers (e i) (f i) p) ∙ h
+handed-on : {n m k l : ℕ} {p : List ℕ} {a : Delivery} → n ≡ m → k ≡ l → delivers m l p ≡ a → delivers n k p ≡ a
+handed-on {p = p} e f h = (λ i. delivers (e i) (f i) p) ∙ h
 
 returns : tie.Need-returns
 returns c = handed-on (c .number .ensures) (c .before .length .ensures) (c .before .before .before .before .fair-copy .ensures)
