@@ -27,8 +27,8 @@ extern "C" {
 
 /* The version of this header and of the archive beside it. */
 #define REC_VERSION_MAJOR 1
-#define REC_VERSION_MINOR 2
-#define REC_VERSION "1.2"
+#define REC_VERSION_MINOR 3
+#define REC_VERSION "1.3"
 
 /* Document 01's limits. */
 #define REC_TEXT 256            /* bytes of a text */
@@ -134,6 +134,8 @@ uint32_t rec_lent_withdraw(int32_t *cells, size_t *used, const int32_t *vars, ui
 uint32_t rec_lent_run(const int32_t *cells, const size_t *used, int32_t *vars, uint8_t letter, uint32_t allowance, const int32_t *inputs, size_t count,
                       int32_t *list, size_t places, uint8_t *output, size_t room, size_t *figures);
 
+uint32_t rec_lent_reach(const int32_t *cells, const size_t *used, const int32_t *vars, uint8_t letter, uint8_t *reached, uint8_t *missing);
+
 /* ---- a store ---- */
 
 /* Every letter cleared, every variable 0, whatever the store held. */
@@ -165,6 +167,16 @@ static inline int32_t rec_run(rec_store *store, uint8_t letter, uint32_t allowan
     report->taken = figures[3];
     report->written = figures[4];
     return (int32_t)number;
+}
+
+/*
+ * What the letter can reach, before it is run: reached[k] is 1 for each letter that some chain of calls in the standing tables leads to, the letter itself
+ * included, and missing[k] is 1 for each of those that has no text; every other mark is 0, and a is 0. 0, or 13, 1, 10 in that order, then REC_DAMAGED
+ * where reading any standing table mark after mark meets a cell that it describes: a refusal here, which leaves both arrays as they were. In a store that
+ * only the calls above have changed since rec_fresh, a run of the letter ends with REC_NO_TEXT only where some letter is marked missing.
+ */
+static inline int32_t rec_reach(const rec_store *store, uint8_t letter, uint8_t reached[REC_LETTERS], uint8_t missing[REC_LETTERS]) {
+    return (int32_t)rec_lent_reach(store->cells, store->used, store->vars, letter, reached, missing);
 }
 
 /* ---- a text alone ---- */

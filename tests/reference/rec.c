@@ -938,6 +938,11 @@ static enum code code_of(int64_t held)
     return CODE_NONE;
 }
 
+/* Cells of a mark, the bytes of a print not counted. */
+static const int64_t fixed[] = {
+    [CODE_NONE] = 1, [CODE_ALONE] = 1, [CODE_DIGIT] = 2, [CODE_TEST] = 2,
+    [CODE_COUNTER] = 4, [CODE_CONSTANT] = 2, [CODE_PRINT] = 2};
+
 /* One letter's table as the machine sees it. */
 struct view {
     const int32_t *cells;
@@ -984,9 +989,6 @@ static enum rec_clause counter_damage(const struct view *v, int64_t at)
 
 static enum rec_clause mark_damage(const struct view *v, int64_t at)
 {
-    static const int64_t fixed[] = {
-        [CODE_NONE] = 1, [CODE_ALONE] = 1, [CODE_DIGIT] = 2, [CODE_TEST] = 2,
-        [CODE_COUNTER] = 4, [CODE_CONSTANT] = 2, [CODE_PRINT] = 2};
     enum code code = code_of(cell(v, at));
     int64_t second;
     if (code == CODE_NONE)
@@ -1346,4 +1348,68 @@ struct rec_answer rec_store_run(const int32_t *cells, const size_t *used,
     if (stop == REC_FINISHED)
         memcpy(variables, m.variables, sizeof m.variables);
     return m.answer;
+}
+
+/* ---- what a letter can reach ------------------------------------------- */
+
+/* The cell after what stands at a sound cell; a transfer is one cell. */
+static int64_t cell_after(const struct view *v, int64_t at)
+{
+    enum code code = code_of(cell(v, at));
+    return at + fixed[code] + (code == CODE_PRINT ? cell(v, at + 1) : 0);
+}
+
+/* Reads a standing table mark after mark from cell 2 to its last cell, wherever its
+ * falses and transfers lead, and notes the letters it calls. */
+static enum rec_clause read_calls(const struct view *v, bool calls[REC_LETTERS])
+{
+    int64_t at = 2;
+    while (at <= v->used) {
+        enum rec_clause clause = damage(v, at);
+        int64_t code;
+        if (clause != REC_SOUND)
+            return clause;
+        code = -cell(v, at);
+        if (code >= 'a' && code <= 'z')
+            calls[code - 'a'] = true;
+        at = cell_after(v, at);
+    }
+    return REC_SOUND;
+}
+
+/* Goes over the reached letters in the order in which they are found. */
+static void follow(bool calls[REC_LETTERS][REC_LETTERS], size_t start,
+                   uint8_t reached[REC_LETTERS])
+{
+    size_t found[REC_LETTERS] = {start};
+    size_t count = 1;
+    memset(reached, 0, REC_LETTERS);
+    reached[start] = 1;
+    for (size_t i = 0; i < count; i++)
+        for (size_t to = 0; to < REC_LETTERS; to++)
+            if (calls[found[i]][to] && !reached[to]) {
+                reached[to] = 1;
+                found[count++] = to;
+            }
+}
+
+uint32_t rec_store_reach(const struct rec_store *store, uint8_t letter,
+                         uint8_t reached[REC_LETTERS], uint8_t missing[REC_LETTERS])
+{
+    bool calls[REC_LETTERS][REC_LETTERS] = {{false}};
+    if (store_is_bad(store->used, store->variables))
+        return REC_BAD_STORE;
+    if (letter < 'a' || letter > 'z')
+        return REC_NO_SUCH_LETTER;
+    if (store->used[letter - 'a'] == 0)
+        return REC_NOT_STANDING;
+    for (size_t i = 0; i < REC_LETTERS; i++) {
+        struct view v = {store->cells + i * REC_CELLS, (int64_t)store->used[i]};
+        if (v.used > 0 && read_calls(&v, calls[i]) != REC_SOUND)
+            return REC_DAMAGED;
+    }
+    follow(calls, (size_t)(letter - 'a'), reached);
+    for (size_t i = 0; i < REC_LETTERS; i++)
+        missing[i] = reached[i] && store->used[i] == 0;
+    return 0;
 }

@@ -1,11 +1,12 @@
-/* An independent implementation of document 01 and of U1 of document 02, to
- * compare the engine with.
+/* An independent implementation of document 01 and of U1 and U2 of document 02,
+ * to compare the engine with.
  *
  * rec_read         reads a text: accepts it, or gives its first fault's number
  * rec_table        lays the text out as a code table of 250 cells
  * rec_clean_print  writes the text's fair copy over the parsed tree (U1)
  * rec_book_*       the book: texts, obeyed by the nested meaning over the tree
  * rec_store_*      the store: code tables, obeyed cell by cell, damaged or not
+ * rec_store_reach  which letters a letter may call, read from the tables (U2)
  *
  * The two ways to run share no code beside the limits below. */
 #ifndef REFERENCE_H
@@ -180,5 +181,11 @@ uint32_t rec_store_withdraw(struct rec_store *store, uint8_t letter);
 struct rec_answer rec_store_run(const int32_t *cells, const size_t *used,
                                 int32_t *variables, uint8_t letter,
                                 uint32_t allowance, const struct rec_loan *loan);
+
+/* The first of 13, 1, 10 and 29 that fits, with both arrays as they were; else 0,
+ * with 1 or 0 for each of `a` to `z`. 29 is a refusal here: some standing table,
+ * reached or not, cannot be read mark after mark to its end. */
+uint32_t rec_store_reach(const struct rec_store *store, uint8_t letter,
+                         uint8_t reached[REC_LETTERS], uint8_t missing[REC_LETTERS]);
 
 #endif

@@ -8,6 +8,9 @@
  *   byte and links in one pass by chains
  * - the clean print of document 02's U1 against a second one below, which filters
  *   the text byte by byte, and what U1 says of every copy and refusal
+ * - U2's reach against two accounts below, one over the texts' trees and one over
+ *   the tables read from their ends, on stores made by texts and on damaged ones;
+ *   after every run, that only a missing letter lets it end 27
  * - the nested meaning against the table machine on random histories
  * - all of these on all short texts over a small set of bytes
  *
@@ -22,6 +25,7 @@
 #include "../differential/work.h"
 
 static unsigned tried, wrong;
+static bool in_histories; /* the directed cases come first, the rounds second */
 
 static bool check(bool good, const char *what, const char *where)
 {
@@ -41,6 +45,7 @@ enum { OUTPUT_ROOM = 5200, GUARD = 64 };
 struct both {
     struct rec_book book;
     struct rec_store store;
+    size_t lengths[REC_LETTERS]; /* of the standing texts */
 };
 
 static void both_fresh(struct both *b)
@@ -54,6 +59,8 @@ static uint32_t both_define(struct both *b, uint8_t letter, const void *text, si
     uint32_t one = rec_book_define(&b->book, letter, text, length);
     uint32_t two = rec_store_define(&b->store, letter, text, length);
     check(one == two, "define answers differ", "");
+    if (one == 0)
+        b->lengths[letter - 'a'] = length;
     return one;
 }
 
@@ -69,6 +76,383 @@ static uint32_t both_withdraw(struct both *b, uint8_t letter)
     check(one == two, "withdraw answers differ", "");
     return one;
 }
+
+/* ---- two more accounts of reach ---------------------------------------- */
+
+/* What a store and a letter may have for a reach to meet. */
+enum sight {
+    ITSELF_ALONE, SELF_CALL, CIRCLE, CHAIN_OF_26, NONE_MISSING, MISSING_NEXT, MISSING_FAR,
+    STANDING_APART, CLEARED_APART, LETTER_IN_PRINT, LETTER_IN_COMMENT, CODE_IN_CONSTANT,
+    CODE_IN_COUNTER, DAMAGE_IN_ITSELF, DAMAGE_REACHED, DAMAGE_APART, CHANGED_AND_SOUND,
+    CELL_1_CHANGED, UNUSED_CHANGED, CLEARED_CHANGED, BAD_BEFORE_1, BAD_BEFORE_10, BAD_BEFORE_29,
+    LETTER_BEFORE_29, STANDING_BEFORE_29, RUN_ENDED_27, RUN_WITH_MISSING, RUN_NONE_MISSING, SIGHTS
+};
+
+static const char *const sight_words[SIGHTS] = {
+    "nothing but itself", "call of itself", "circle of more letters", "chain of 26",
+    "others reached, none missing", "missing letter that it calls", "missing letter further on",
+    "standing letter not reached", "cleared letter not reached", "letter in a print only",
+    "letter in a comment only", "call's code as a constant only",
+    "call's code as a counter's n only", "damage in its own table", "damage in a reached table",
+    "damage in no reached table", "changed table read through", "cell 1 changed",
+    "cells past the used ones changed", "cells of a cleared letter changed", "13 before 1",
+    "13 before 10", "13 before 29", "1 before 29", "10 before 29", "run ended 27",
+    "run not ended 27, a letter missing", "run, no letter missing"};
+
+/* Of 29, as enum rec_clause has them. */
+static const char *const clause_words[REC_CLAUSES] = {
+    "sound", "cell outside", "last cell not 1", "one before the last not 0", "0 earlier",
+    "transfer outside", "no code", "mark too long", "false outside", "bad digit", "bad n",
+    "bad order", "bad constant", "bad print length", "bad print byte"};
+
+static unsigned long long sights[2][SIGHTS], reaches[2][REC_NUMBERS], clauses[2][REC_CLAUSES];
+
+static void sighted(bool seen, enum sight sight)
+{
+    sights[in_histories][sight] += seen;
+}
+
+/* Letters as bits, `a` the lowest. */
+static uint32_t bit(size_t letter)
+{
+    return (uint32_t)1 << letter;
+}
+
+struct ways {
+    bool bad;         /* number 13 */
+    uint32_t clause;  /* of 29, of the first damaged table */
+    uint32_t damaged; /* letters whose table cannot be read through */
+    uint32_t standing;
+    uint32_t calls[REC_LETTERS];
+    uint32_t leads[REC_LETTERS]; /* by a chain of one call or more */
+    /* of texts only, to see what is no call */
+    uint32_t bytes[REC_LETTERS]; /* anywhere in the text */
+    uint32_t prints[REC_LETTERS];
+    uint32_t constants[REC_LETTERS]; /* whose value is a call's code */
+    uint32_t counters[REC_LETTERS];  /* whose n is a letter's byte */
+};
+
+/* Warshall's closure. */
+static void close_ways(struct ways *w)
+{
+    memcpy(w->leads, w->calls, sizeof w->leads);
+    for (size_t by = 0; by < REC_LETTERS; by++)
+        for (size_t from = 0; from < REC_LETTERS; from++)
+            if (w->leads[from] & bit(by))
+                w->leads[from] |= w->leads[by];
+}
+
+static uint32_t letter_bit(int32_t byte)
+{
+    return byte >= 'a' && byte <= 'z' ? bit((size_t)(byte - 'a')) : 0;
+}
+
+static uint32_t letter_bits(const uint8_t *bytes, size_t length)
+{
+    uint32_t letters = 0;
+    while (length-- > 0)
+        letters |= letter_bit(*bytes++);
+    return letters;
+}
+
+static void walk(struct ways *w, size_t letter, const struct rec_tree *tree, size_t first)
+{
+    for (size_t s = first; s != REC_NONE; s = tree->segments[s].next)
+        for (size_t i = tree->segments[s].first; i != REC_NONE; i = tree->items[i].next) {
+            const struct rec_item *item = &tree->items[i];
+            if (item->kind == REC_INNER)
+                walk(w, letter, tree, item->inner);
+            else if (item->kind == REC_CALL)
+                w->calls[letter] |= letter_bit(item->mark);
+            else if (item->kind == REC_PRINT)
+                w->prints[letter] |= letter_bits(tree->text + item->start, item->length);
+            else if (item->kind == REC_CONSTANT)
+                w->constants[letter] |= letter_bit(-item->value);
+            else if (item->kind == REC_COUNTER)
+                w->counters[letter] |= letter_bit(item->value);
+        }
+}
+
+/* The account over the trees, of a store made by texts. */
+static void ways_of_texts(const struct both *b, struct ways *w)
+{
+    memset(w, 0, sizeof *w);
+    for (size_t i = 0; i < REC_LETTERS; i++)
+        if (b->book.standing[i]) {
+            w->standing |= bit(i);
+            w->bytes[i] = letter_bits(b->book.texts[i].text, b->lengths[i]);
+            walk(w, i, &b->book.texts[i], b->book.texts[i].outermost);
+        }
+    close_ways(w);
+}
+
+/* The cells after a code: f false, d digit, n and o of a counter, v value, l length
+ * and so many bytes. NULL where there is no such code. */
+static const char *form_of(int32_t held)
+{
+    switch (held) {
+    case -'A': case -'L': case -'M': case -'P': case -'O': case -'X': case -'I':
+    case -'+': case -'-': case -'*': case -'/':
+        return "";
+    case -'F': case -'S':
+        return "d";
+    case -'N': case -'0': case -'J':
+        return "f";
+    case -'$':
+        return "nof";
+    case -('/' + 128):
+        return "v";
+    case -('\'' + 128):
+        return "l";
+    default:
+        return held <= -'a' && held >= -'z' ? "f" : NULL;
+    }
+}
+
+/* One cell that must hold something, of a table with so many cells. */
+static enum rec_clause judge_cell(char what, int32_t held, size_t used)
+{
+    bool inside = held >= 2 && held <= (int32_t)used;
+    switch (what) {
+    case 't':
+        return inside ? REC_SOUND : REC_TRANSFER_OUTSIDE;
+    case 'f':
+        return inside ? REC_SOUND : REC_FALSE_OUTSIDE;
+    case 'd':
+        return held >= 1 && held <= 10 ? REC_SOUND : REC_BAD_DIGIT;
+    case 'n':
+        return held <= -1 && held >= -9999 ? REC_SOUND : REC_BAD_N;
+    case 'o':
+        return held >= 0 && held <= 15 ? REC_SOUND : REC_BAD_ORDER;
+    case 'v':
+        return held >= -REC_VALUE && held <= REC_VALUE ? REC_SOUND : REC_BAD_VALUE;
+    case 'l':
+        return held >= 0 ? REC_SOUND : REC_BAD_LENGTH;
+    default:
+        return held >= 32 && held <= 126 && held != '\'' ? REC_SOUND : REC_BAD_BYTE;
+    }
+}
+
+/* The cells after the code at `*at`, one by one; cell n is `table[n]`. */
+static enum rec_clause judge_mark(const int32_t *table, size_t used, size_t *at)
+{
+    const char *form = form_of(table[*at]);
+    int32_t bytes = 0;
+    if (!form)
+        return REC_NO_CODE;
+    ++*at;
+    while (*form || bytes > 0) {
+        char what = *form ? *form++ : 'b';
+        enum rec_clause clause;
+        if (*at > used - 2)
+            return REC_MARK_TOO_LONG;
+        clause = judge_cell(what, table[*at], used);
+        if (clause != REC_SOUND)
+            return clause;
+        bytes += what == 'l' ? table[*at] : what == 'b' ? -1 : 0;
+        ++*at;
+    }
+    return REC_SOUND;
+}
+
+/* Moves `*at` to the next cell that reading comes to. */
+static enum rec_clause judge(const int32_t *table, size_t used, size_t *at)
+{
+    size_t here = *at;
+    if (here < used - 1 && table[here] < 0)
+        return judge_mark(table, used, at);
+    ++*at;
+    if (here == used)
+        return table[here] == 1 ? REC_SOUND : REC_LAST_NOT_1;
+    if (here == used - 1)
+        return table[here] == 0 ? REC_SOUND : REC_LAST_BUT_ONE_NOT_0;
+    return table[here] == 0 ? REC_HOLDS_0 : judge_cell('t', table[here], used);
+}
+
+/* From the last cell to cell 2: what reading on from each would meet. */
+static enum rec_clause read_back(const int32_t *cells, size_t used, uint32_t *calls)
+{
+    int32_t table[REC_CELLS + 1];
+    enum rec_clause meets[REC_CELLS + 2] = {REC_SOUND};
+    uint32_t called[REC_CELLS + 2] = {0};
+    memcpy(table + 1, cells, REC_CELLS * sizeof cells[0]);
+    for (size_t at = used; at >= 2; at--) {
+        size_t next = at;
+        enum rec_clause clause = judge(table, used, &next);
+        meets[at] = clause == REC_SOUND ? meets[next] : clause;
+        if (clause == REC_SOUND)
+            called[at] = called[next] | letter_bit(-table[at]);
+    }
+    *calls = called[2];
+    return meets[2];
+}
+
+/* The account over the tables, of any store. */
+static void ways_of_tables(const struct rec_store *store, struct ways *w)
+{
+    memset(w, 0, sizeof *w);
+    for (size_t i = 0; i < REC_VARIABLES; i++)
+        w->bad |= judge_cell('v', store->variables[i], 0) != REC_SOUND;
+    for (size_t i = 0; i < REC_LETTERS; i++) {
+        enum rec_clause clause;
+        if (store->used[i] == 0)
+            continue;
+        w->standing |= bit(i);
+        if (store->used[i] < 3 || store->used[i] > REC_CELLS) {
+            w->bad = true;
+            continue;
+        }
+        clause = read_back(store->cells + i * REC_CELLS, store->used[i], &w->calls[i]);
+        if (clause == REC_SOUND)
+            continue;
+        if (w->damaged == 0)
+            w->clause = clause;
+        w->damaged |= bit(i);
+    }
+    close_ways(w);
+}
+
+/* From the last in order to the first, which stays. */
+static uint32_t number_of_reach(const struct ways *w, uint8_t letter)
+{
+    bool known = letter_bit(letter) != 0;
+    bool standing = (letter_bit(letter) & w->standing) != 0;
+    uint32_t number = w->damaged ? REC_DAMAGED : 0;
+    sighted(w->bad && !known, BAD_BEFORE_1);
+    sighted(w->bad && known && !standing, BAD_BEFORE_10);
+    sighted(w->bad && w->damaged, BAD_BEFORE_29);
+    sighted(!w->bad && !known && w->damaged, LETTER_BEFORE_29);
+    sighted(!w->bad && known && !standing && w->damaged, STANDING_BEFORE_29);
+    if (!standing)
+        number = REC_NOT_STANDING;
+    if (!known)
+        number = REC_NO_SUCH_LETTER;
+    if (w->bad)
+        number = REC_BAD_STORE;
+    return number;
+}
+
+/* Some letter is 25 calls away, and no fewer. */
+static bool is_chain_of_26(const struct ways *w, size_t letter)
+{
+    uint32_t all = bit(letter), last = all;
+    for (int calls = 1; calls < REC_LETTERS; calls++) {
+        uint32_t next = 0;
+        for (size_t i = 0; i < REC_LETTERS; i++)
+            if (last & bit(i))
+                next |= w->calls[i];
+        last = next & ~all;
+        if (last == 0)
+            return false;
+        all |= last;
+    }
+    return true;
+}
+
+static void sights_of_reach(const struct ways *w, size_t letter, uint32_t reached,
+                            uint32_t missing)
+{
+    uint32_t in_prints = 0, in_comments = 0, in_constants = 0, in_counters = 0;
+    bool circle = false;
+    for (size_t i = 0; i < REC_LETTERS; i++) {
+        if (!(reached & bit(i)))
+            continue;
+        circle |= i != letter && (w->leads[i] & bit(letter));
+        in_prints |= w->prints[i] & ~reached;
+        in_comments |= w->bytes[i] & ~w->prints[i] & ~reached;
+        in_constants |= w->constants[i] & ~reached;
+        in_counters |= w->counters[i] & ~reached;
+    }
+    sighted(reached == bit(letter), ITSELF_ALONE);
+    sighted(w->calls[letter] & bit(letter), SELF_CALL);
+    sighted(circle, CIRCLE);
+    sighted(is_chain_of_26(w, letter), CHAIN_OF_26);
+    sighted(reached != bit(letter) && missing == 0, NONE_MISSING);
+    sighted(missing & w->calls[letter], MISSING_NEXT);
+    sighted(missing & ~w->calls[letter], MISSING_FAR);
+    sighted(w->standing & ~reached, STANDING_APART);
+    sighted(~w->standing & ~reached & (bit(REC_LETTERS) - 1), CLEARED_APART);
+    sighted(in_prints, LETTER_IN_PRINT);
+    sighted(in_comments, LETTER_IN_COMMENT);
+    sighted(in_constants, CODE_IN_CONSTANT);
+    sighted(in_counters, CODE_IN_COUNTER);
+}
+
+static void sights_of_damage(const struct ways *w, size_t letter)
+{
+    clauses[in_histories][w->clause]++;
+    sighted(w->damaged & bit(letter), DAMAGE_IN_ITSELF);
+    sighted(w->damaged & ~bit(letter) & w->leads[letter], DAMAGE_REACHED);
+    sighted(!(w->damaged & (bit(letter) | w->leads[letter])), DAMAGE_APART);
+}
+
+/* Lent marks with some room behind them that must stay. */
+struct marks {
+    uint8_t reached[REC_LETTERS + GUARD];
+    uint8_t missing[REC_LETTERS + GUARD];
+};
+
+/* Neither 0 nor 1 anywhere, so each mark that is written shows. */
+static const struct marks *soiled_marks(void)
+{
+    static struct marks soiled;
+    if (soiled.reached[0] == 0)
+        for (size_t i = 0; i < REC_LETTERS + GUARD; i++) {
+            soiled.reached[i] = (uint8_t)(2 + i * 37 % 251);
+            soiled.missing[i] = (uint8_t)(2 + i * 53 % 251);
+        }
+    return &soiled;
+}
+
+static void expected_marks(const struct ways *w, size_t letter, struct marks *marks)
+{
+    uint32_t reached = bit(letter) | w->leads[letter];
+    uint32_t missing = reached & ~w->standing;
+    for (size_t i = 0; i < REC_LETTERS; i++) {
+        marks->reached[i] = reached >> i & 1;
+        marks->missing[i] = missing >> i & 1;
+    }
+    sights_of_reach(w, letter, reached, missing);
+}
+
+/* A reach against one of the accounts. */
+static uint32_t compare_reach(const struct rec_store *store, const struct ways *w,
+                              uint8_t letter, const char *what)
+{
+    struct marks marks = *soiled_marks(), expected = marks;
+    uint32_t due = number_of_reach(w, letter);
+    uint32_t number = rec_store_reach(store, letter, marks.reached, marks.missing);
+    if (due == 0)
+        expected_marks(w, (size_t)(letter - 'a'), &expected);
+    if (due == REC_DAMAGED)
+        sights_of_damage(w, (size_t)(letter - 'a'));
+    if (check(number == due, "numbers of a reach differ", what))
+        reaches[in_histories][number]++;
+    else if (wrong <= 20)
+        printf("  %u and %u, letter %u\n", (unsigned)number, (unsigned)due, letter);
+    if (!check(memcmp(&marks, &expected, sizeof marks) == 0, "marks of a reach", what)
+        && wrong <= 20)
+        printf("  letter %u\n", letter);
+    return number;
+}
+
+/* What U2 says of a run on a store made by calls. */
+static void check_reach_of_run(const struct rec_store *store, uint8_t letter,
+                               const struct rec_answer *a)
+{
+    struct marks marks = *soiled_marks();
+    uint32_t number = rec_store_reach(store, letter, marks.reached, marks.missing);
+    bool lacks = number == 0 && memchr(marks.missing, 1, REC_LETTERS) != NULL;
+    bool refused = a->number == REC_NO_SUCH_LETTER || a->number == REC_NOT_STANDING;
+    bool ran = a->number == REC_FINISHED || a->number >= REC_SPENT;
+    check(number == (refused ? a->number : 0), "refusals of run and reach differ", "");
+    check(a->number != REC_NO_TEXT || lacks, "run ended 27, no letter missing", "");
+    sighted(a->number == REC_NO_TEXT, RUN_ENDED_27);
+    sighted(ran && a->number != REC_NO_TEXT && lacks, RUN_WITH_MISSING);
+    sighted(ran && !lacks, RUN_NONE_MISSING);
+}
+
+/* ---- runs side by side ------------------------------------------------- */
 
 /* A lent list and output with some room behind them that must stay. */
 struct paper {
@@ -142,6 +526,7 @@ static struct rec_answer both_run(struct both *b, uint8_t letter, uint32_t allow
         check(memcmp(b->book.variables, variables, sizeof variables) == 0,
               "variables of an unfinished run", "");
     check_frame(&one, allowance, &first);
+    check_reach_of_run(&b->store, letter, &one);
     return one;
 }
 
@@ -426,9 +811,7 @@ static const char *const feature_words[FEATURES] = {
     "many zeros", "minus zero", "minus many zeros", "copy like its text",
     "copy shorter than its text", "copy of 256 bytes"};
 
-/* The directed cases first, the rounds second. */
 static unsigned long long features[2][FEATURES], prints[2][REC_NUMBERS];
-static bool in_histories;
 
 static void saw(bool seen, enum feature feature)
 {
@@ -1057,6 +1440,15 @@ static void refused_copies(void)
 
 /* ---- damaged stores, by hand ------------------------------------------- */
 
+static void put_cells(int32_t *table, const char *cells)
+{
+    while (*cells) {
+        char *rest;
+        *table++ = (int32_t)strtol(cells, &rest, 10);
+        cells = *rest == ',' ? rest + 1 : rest;
+    }
+}
+
 /* Table of letter `a`, used count as given, against number and steps. */
 static void expect_damage(const char *cells, size_t used, uint32_t allowance,
                           uint32_t number, uint32_t steps, uint32_t clause)
@@ -1066,14 +1458,8 @@ static void expect_damage(const char *cells, size_t used, uint32_t allowance,
     uint8_t output[100];
     struct rec_loan loan = {input, 4, list, REC_LIST, output, sizeof output};
     struct rec_answer a;
-    const char *at = cells;
-    size_t count = 0;
     rec_store_fresh(&store);
-    while (*at) {
-        char *rest;
-        store.cells[count++] = (int32_t)strtol(at, &rest, 10);
-        at = *rest == ',' ? rest + 1 : rest;
-    }
+    put_cells(store.cells, cells);
     store.used[0] = used;
     a = rec_store_run(store.cells, store.used, store.variables, 'a', allowance, &loan);
     check(a.number == number && a.steps == steps && a.clause == clause, "damaged", cells);
@@ -1179,6 +1565,365 @@ static void refusals_by_hand(void)
     store.cells[25 * REC_CELLS + 6] = -88;
     check(rec_store_run(store.cells, store.used, store.variables, 'z', 9, &loan).number
               == REC_FINISHED && store.variables[0] == 7, "variables of a finished run", "");
+}
+
+/* ---- reach by hand ----------------------------------------------------- */
+
+static void mark_letters(uint8_t *marks, const char *letters)
+{
+    memset(marks, 0, REC_LETTERS);
+    while (*letters)
+        marks[*letters++ - 'a'] = 1;
+}
+
+/* The letters reached, and those of them without a text. */
+static void expect_reach(const struct both *b, char letter, const char *reached,
+                         const char *missing)
+{
+    struct marks marks = *soiled_marks(), expected = marks;
+    struct ways w;
+    mark_letters(expected.reached, reached);
+    mark_letters(expected.missing, missing);
+    check(rec_store_reach(&b->store, (uint8_t)letter, marks.reached, marks.missing) == 0
+              && memcmp(&marks, &expected, sizeof marks) == 0, "reach", reached);
+    ways_of_texts(b, &w);
+    compare_reach(&b->store, &w, (uint8_t)letter, reached);
+    ways_of_tables(&b->store, &w);
+    compare_reach(&b->store, &w, (uint8_t)letter, reached);
+}
+
+/* The number alone, a refusal's or 0; the marks are those of the tables. */
+static void expect_number(const struct rec_store *store, uint8_t letter, uint32_t number,
+                          const char *what)
+{
+    struct ways w;
+    ways_of_tables(store, &w);
+    check(compare_reach(store, &w, letter, what) == number, "number of a reach", what);
+}
+
+/* One text, of letter `q`; the others are cleared. */
+static void expect_calls(const char *text, const char *reached, const char *missing)
+{
+    static struct both b;
+    both_fresh(&b);
+    check(define_text(&b, 'q', text) == 0, "define", text);
+    expect_reach(&b, 'q', reached, missing);
+}
+
+static void reach_of_texts(void)
+{
+    expect_calls("()", "q", "");
+    expect_calls("(q;)", "q", "");
+    expect_calls("(a;)", "qa", "a");
+    expect_calls("(az)", "qaz", "az");
+    expect_calls("(aaqa)", "qa", "a");
+    /* marks that no run comes to */
+    expect_calls("(;a)", "qa", "a");
+    expect_calls("(:a)", "qa", "a");
+    expect_calls("(b:c;d)", "qbcd", "bcd");
+    expect_calls("(X;(:(;a)b)c)", "qabc", "abc");
+    expect_calls("((((((((((k)l)m)n)o)p)r)s)t)u)", "qklmnoprstu", "klmnoprstu");
+    /* no marks */
+    expect_calls("(''abc')", "q", "");
+    expect_calls("(''')", "q", "");
+    expect_calls("(''ab'c''de'f)", "qcf", "cf");
+    expect_calls("(\"abc\")\"d\"", "q", "");
+    expect_calls("\"a(b)c\"(\"d\"e\"f\")", "qe", "e");
+    expect_calls("('/-97''/97''/-122''/122')", "q", "");
+    expect_calls("('/-97'b'/-99')", "qb", "b");
+    expect_calls("('/-167''/-175''/-36'a)", "qa", "a");
+    expect_calls("($97$$122$)", "q", "");
+    expect_calls("($97$b$99$)", "qb", "b");
+    expect_calls("(F1S0ALMPOXI+-*/N0J)", "q", "");
+    expect_calls("(F1aS0bN'/1'c$5$d''x'eX)", "qabcde", "abcde");
+}
+
+/* Letters first to last, each calling the next. */
+static void chain_of(struct both *b, const char *letters, char last)
+{
+    char text[] = "( ;)";
+    both_fresh(b);
+    for (; *letters; letters++) {
+        text[1] = letters[1] ? letters[1] : last;
+        define_text(b, *letters, text);
+    }
+}
+
+static void reach_of_chains(void)
+{
+    static const char *const orders[] = {
+        "abcdefghijklmnopqrstuvwxyz", "zyxwvutsrqponmlkjihgfedcba", "azbycxdwevfugthsirjqkplomn",
+        "mnlokpjqirhsgtfuevdwcxbyaz"};
+    static struct both b;
+    for (size_t i = 0; i < 4; i++) {
+        const char *order = orders[i];
+        chain_of(&b, order, ' ');
+        for (size_t j = 0; j < REC_LETTERS; j++)
+            expect_reach(&b, order[j], order + j, "");
+        chain_of(&b, order, order[25]);
+        expect_reach(&b, order[0], order, "");
+        expect_reach(&b, order[25], order + 25, "");
+        chain_of(&b, order, order[0]);
+        for (size_t j = 0; j < REC_LETTERS; j++)
+            expect_reach(&b, order[j], order, "");
+        both_withdraw(&b, (uint8_t)order[25]);
+        expect_reach(&b, order[0], order, order + 25);
+        expect_number(&b.store, (uint8_t)order[25], REC_NOT_STANDING, "end of a chain");
+    }
+}
+
+static void reach_of_histories(void)
+{
+    static struct both b;
+    both_fresh(&b);
+    define_text(&b, 'd', "(0L'/1';'/1'-d'/2'*;)");
+    define_text(&b, 'm', "(Id;)");
+    expect_reach(&b, 'm', "md", "");
+    expect_reach(&b, 'd', "d", "");
+    both_withdraw(&b, 'd');
+    expect_reach(&b, 'm', "md", "d");
+    expect_number(&b.store, 'd', REC_NOT_STANDING, "withdrawn");
+    /* a cleared letter leads no further; a replaced one leads as it stands */
+    define_text(&b, 'd', "(e;f)");
+    define_text(&b, 'e', "(m;g)");
+    expect_reach(&b, 'm', "mdefg", "fg");
+    expect_reach(&b, 'e', "mdefg", "fg");
+    both_withdraw(&b, 'd');
+    expect_reach(&b, 'm', "md", "d");
+    expect_reach(&b, 'e', "emdg", "dg");
+    define_text(&b, 'd', "(d;)");
+    expect_reach(&b, 'm', "md", "");
+    check(define_text(&b, 'd', "(w") == REC_UNFINISHED, "refused define", "reach");
+    expect_reach(&b, 'm', "md", "");
+    /* missing, though no run comes to it */
+    define_text(&b, 'm', "(;w)");
+    expect_reach(&b, 'm', "mw", "w");
+    expect_run(&b, 'm', 9, "", 0, true, 1, 0, 0, "call past the end");
+}
+
+/* Table of letter `d`, which `c` calls and `b` does not, and its clause of 29. */
+static void expect_reading(const char *cells, size_t used, uint32_t clause)
+{
+    static struct rec_store store;
+    struct ways w;
+    rec_store_fresh(&store);
+    rec_store_define(&store, 'b', (const uint8_t *)"(b;x)", 5);
+    rec_store_define(&store, 'c', (const uint8_t *)"(y;d)", 5);
+    put_cells(store.cells + 3 * REC_CELLS, cells);
+    store.used[3] = used;
+    ways_of_tables(&store, &w);
+    check(w.clause == clause, "clause", cells);
+    for (uint8_t letter = 'b'; letter <= 'd'; letter++)
+        expect_number(&store, letter, clause == REC_SOUND ? 0 : REC_DAMAGED, cells);
+    expect_number(&store, 'e', REC_NOT_STANDING, cells);
+    expect_number(&store, '{', REC_NO_SUCH_LETTER, cells);
+    expect_number(&store, '`', REC_NO_SUCH_LETTER, cells);
+    sighted(clause == REC_SOUND, CHANGED_AND_SOUND);
+    store.variables[0] = -REC_VALUE - 1;
+    expect_number(&store, 'b', REC_BAD_STORE, cells);
+    expect_number(&store, 'e', REC_BAD_STORE, cells);
+    expect_number(&store, '{', REC_BAD_STORE, cells);
+}
+
+struct reading {
+    const char *cells;
+    size_t used;
+    uint32_t clause;
+};
+
+static const struct reading readings[] = {
+    {"2000,0,1", 3, REC_SOUND}, {"7,0,1", 3, REC_SOUND}, {"-66,0,1", 3, REC_SOUND},
+    {"2000,0,1,-66,0,9", 3, REC_SOUND}, {"2000,0,1,-97", 3, REC_SOUND},
+    {"2000,0,0", 3, REC_LAST_NOT_1}, {"2000,0,2", 3, REC_LAST_NOT_1},
+    {"2000,0,-97", 3, REC_LAST_NOT_1}, {"2000,2,0,-1", 4, REC_LAST_NOT_1},
+    {"2000,1,1", 3, REC_LAST_BUT_ONE_NOT_0}, {"2000,-88,1", 3, REC_LAST_BUT_ONE_NOT_0},
+    {"2000,2,1", 3, REC_LAST_BUT_ONE_NOT_0}, {"2000,-88,2,1", 4, REC_LAST_BUT_ONE_NOT_0},
+    {"2000,0,0,1", 4, REC_HOLDS_0}, {"2000,-88,0,0,1", 5, REC_HOLDS_0},
+    {"2000,1,0,1", 4, REC_TRANSFER_OUTSIDE}, {"2000,5,0,1", 4, REC_TRANSFER_OUTSIDE},
+    {"2000,2000,0,1", 4, REC_TRANSFER_OUTSIDE}, {"2000,2147483647,0,1", 4, REC_TRANSFER_OUTSIDE},
+    {"2000,2,0,1", 4, REC_SOUND}, {"2000,3,0,1", 4, REC_SOUND}, {"2000,4,0,1", 4, REC_SOUND},
+    {"2000,-1,0,1", 4, REC_NO_CODE}, {"2000,-66,0,1", 4, REC_NO_CODE},
+    {"2000,-96,4,0,1", 5, REC_NO_CODE}, {"2000,-123,4,0,1", 5, REC_NO_CODE},
+    {"2000,-40,0,1", 4, REC_NO_CODE}, {"2000,-41,0,1", 4, REC_NO_CODE},
+    {"2000,-58,0,1", 4, REC_NO_CODE}, {"2000,-59,0,1", 4, REC_NO_CODE},
+    {"2000,-39,0,1", 4, REC_NO_CODE}, {"2000,-34,0,1", 4, REC_NO_CODE},
+    {"2000,-329,0,1", 4, REC_NO_CODE}, {"2000,-353,5,0,1", 5, REC_NO_CODE},
+    {"2000,-2147483648,0,1", 4, REC_NO_CODE}, {"2000,-88,0,1", 4, REC_SOUND},
+    {"2000,-47,0,1", 4, REC_SOUND}, {"2000,-97,2,0,1", 5, REC_SOUND},
+    {"2000,-122,5,0,1", 5, REC_SOUND},
+    {"2000,-97,0,1", 4, REC_MARK_TOO_LONG}, {"2000,-78,0,1", 4, REC_MARK_TOO_LONG},
+    {"2000,-70,0,1", 4, REC_MARK_TOO_LONG}, {"2000,-175,0,1", 4, REC_MARK_TOO_LONG},
+    {"2000,-167,0,1", 4, REC_MARK_TOO_LONG}, {"2000,-36,-1,0,0,1", 6, REC_MARK_TOO_LONG},
+    {"2000,-36,-1,0,1", 5, REC_MARK_TOO_LONG}, {"2000,-167,1,0,1", 5, REC_MARK_TOO_LONG},
+    {"2000,-167,2,97,0,1", 6, REC_MARK_TOO_LONG},
+    {"2000,-167,2147483647,0,1", 5, REC_MARK_TOO_LONG},
+    {"2000,-78,0,0,1", 5, REC_FALSE_OUTSIDE}, {"2000,-78,1,0,1", 5, REC_FALSE_OUTSIDE},
+    {"2000,-78,6,0,1", 5, REC_FALSE_OUTSIDE}, {"2000,-78,-97,0,1", 5, REC_FALSE_OUTSIDE},
+    {"2000,-97,1,0,1", 5, REC_FALSE_OUTSIDE}, {"2000,-97,6,0,1", 5, REC_FALSE_OUTSIDE},
+    {"2000,-36,-1,0,1,0,1", 7, REC_FALSE_OUTSIDE}, {"2000,-36,-1,0,8,0,1", 7, REC_FALSE_OUTSIDE},
+    {"2000,-78,2,0,1", 5, REC_SOUND}, {"2000,-78,5,0,1", 5, REC_SOUND},
+    {"2000,-70,0,0,1", 5, REC_BAD_DIGIT}, {"2000,-70,11,0,1", 5, REC_BAD_DIGIT},
+    {"2000,-83,-97,0,1", 5, REC_BAD_DIGIT}, {"2000,-70,1,0,1", 5, REC_SOUND},
+    {"2000,-83,10,0,1", 5, REC_SOUND},
+    {"2000,-36,0,0,7,0,1", 7, REC_BAD_N}, {"2000,-36,1,0,7,0,1", 7, REC_BAD_N},
+    {"2000,-36,-10000,0,7,0,1", 7, REC_BAD_N}, {"2000,-36,-2147483648,0,7,0,1", 7, REC_BAD_N},
+    {"2000,-36,-9999,0,7,0,1", 7, REC_SOUND}, {"2000,-36,-97,0,7,0,1", 7, REC_SOUND},
+    {"2000,-36,-1,-1,7,0,1", 7, REC_BAD_ORDER}, {"2000,-36,-1,16,7,0,1", 7, REC_BAD_ORDER},
+    {"2000,-36,-1,-97,7,0,1", 7, REC_BAD_ORDER}, {"2000,-36,-1,15,2,0,1", 7, REC_SOUND},
+    {"2000,-175,1000000000,0,1", 5, REC_BAD_VALUE}, {"2000,-175,999999999,0,1", 5, REC_SOUND},
+    {"2000,-175,-1000000000,0,1", 5, REC_BAD_VALUE}, {"2000,-175,-999999999,0,1", 5, REC_SOUND},
+    {"2000,-175,-2147483648,0,1", 5, REC_BAD_VALUE}, {"2000,-175,-97,0,1", 5, REC_SOUND},
+    {"2000,-167,-1,0,1", 5, REC_BAD_LENGTH}, {"2000,-167,-97,0,1", 5, REC_BAD_LENGTH},
+    {"2000,-167,-2147483648,0,1", 5, REC_BAD_LENGTH}, {"2000,-167,0,0,1", 5, REC_SOUND},
+    {"2000,-167,1,31,0,1", 6, REC_BAD_BYTE}, {"2000,-167,1,127,0,1", 6, REC_BAD_BYTE},
+    {"2000,-167,1,39,0,1", 6, REC_BAD_BYTE}, {"2000,-167,1,10,0,1", 6, REC_BAD_BYTE},
+    {"2000,-167,1,-97,0,1", 6, REC_BAD_BYTE}, {"2000,-167,1,353,0,1", 6, REC_BAD_BYTE},
+    {"2000,-167,2,97,31,0,1", 7, REC_BAD_BYTE}, {"2000,-167,2,32,126,0,1", 7, REC_SOUND},
+    /* a second mark, after each kind of first */
+    {"2000,-88,-66,0,1", 5, REC_NO_CODE}, {"2000,-70,3,-66,0,1", 6, REC_NO_CODE},
+    {"2000,-97,3,-66,0,1", 6, REC_NO_CODE}, {"2000,-36,-1,0,3,-66,0,1", 8, REC_NO_CODE},
+    {"2000,-175,3,-66,0,1", 6, REC_NO_CODE}, {"2000,-167,0,-66,0,1", 6, REC_NO_CODE},
+    {"2000,-167,2,97,98,-66,0,1", 8, REC_NO_CODE}, {"2000,3,-66,0,1", 5, REC_NO_CODE},
+    /* cells that no run comes to */
+    {"2000,5,-66,0,1", 5, REC_NO_CODE}, {"2000,6,-78,9,0,1", 6, REC_FALSE_OUTSIDE},
+    {"2000,2,-78,9,0,1", 6, REC_FALSE_OUTSIDE}, {"2000,2,0,2", 4, REC_LAST_NOT_1},
+    /* transfers and falses into a mark are not followed */
+    {"2000,-36,-2,0,8,3,0,1", 8, REC_SOUND}, {"2000,4,-175,-119,7,0,1", 7, REC_SOUND},
+    {"2000,-78,3,0,1", 5, REC_SOUND},
+};
+
+/* Damage in each letter in turn, and changes that are none: `a` to `m` are a chain. */
+static void damage_of_each_letter(void)
+{
+    static struct both b;
+    static struct rec_store kept;
+    chain_of(&b, "abcdefghijklm", 'm');
+    for (char letter = 'n'; letter <= 'z'; letter++)
+        define_text(&b, letter, "(X;)");
+    kept = b.store;
+    for (size_t i = 0; i < REC_LETTERS; i++) {
+        int32_t *cells = b.store.cells + i * REC_CELLS;
+        cells[1] = -66;
+        for (uint8_t letter = 'a'; letter <= 'z'; letter++)
+            expect_number(&b.store, letter, REC_DAMAGED, "one damaged table");
+        b.store = kept;
+        cells[0] = -'y';
+        for (size_t j = b.store.used[i]; j < REC_CELLS; j++)
+            cells[j] = j % 2 ? -66 : -'y';
+        expect_reach(&b, 'a', "abcdefghijklm", "");
+        expect_reach(&b, 'z', "z", "");
+        sighted(true, CELL_1_CHANGED);
+        sighted(true, UNUSED_CHANGED);
+        b.store = kept;
+    }
+}
+
+/* A cleared letter's cells are not read, whatever they hold. */
+static void cells_of_cleared_letters(void)
+{
+    static const char *const cells[] = {"2000,-122,5,0,1", "2000,-66,9,9,9,9", "1,-97,1",
+                                        "-1,-1,-1,-1,-1,-1,-1"};
+    static struct both b;
+    both_fresh(&b);
+    define_text(&b, 'a', "(c;b)");
+    define_text(&b, 'b', "(a;)");
+    for (size_t i = 0; i < 4; i++) {
+        put_cells(b.store.cells + 2 * REC_CELLS, cells[i]);
+        put_cells(b.store.cells + 25 * REC_CELLS, cells[i]);
+        expect_reach(&b, 'a', "abc", "c");
+        expect_reach(&b, 'b', "abc", "c");
+        expect_number(&b.store, 'c', REC_NOT_STANDING, "cells of a cleared letter");
+        sighted(true, CLEARED_CHANGED);
+    }
+}
+
+static void expect_bad_store(const struct rec_store *store, const char *what)
+{
+    expect_number(store, 'a', REC_BAD_STORE, what);
+    expect_number(store, 'b', REC_BAD_STORE, what);
+    expect_number(store, 'A', REC_BAD_STORE, what);
+}
+
+/* `a` stands. Used counts and variables in turn, then all other letters. */
+static void refusals_of_reach(void)
+{
+    static const size_t used[] = {1, 2, 251, 65536 + 3, SIZE_MAX};
+    static const int32_t values[] = {REC_VALUE + 1, -REC_VALUE - 1, INT32_MAX, INT32_MIN};
+    static struct both b;
+    both_fresh(&b);
+    define_text(&b, 'a', "(z;a)");
+    for (size_t i = 0; i < REC_LETTERS; i++)
+        for (size_t j = 0; j < 5; j++) {
+            size_t kept = b.store.used[i];
+            b.store.used[i] = used[j];
+            expect_bad_store(&b.store, "used count");
+            b.store.used[i] = kept;
+        }
+    for (size_t i = 0; i < REC_VARIABLES; i++) {
+        for (size_t j = 0; j < 4; j++) {
+            b.store.variables[i] = values[j];
+            expect_bad_store(&b.store, "variable");
+        }
+        b.store.variables[i] = i % 2 ? REC_VALUE : -REC_VALUE;
+        expect_reach(&b, 'a', "az", "z");
+    }
+    for (int letter = 0; letter < 256; letter++)
+        if (letter != 'a')
+            expect_number(&b.store, (uint8_t)letter,
+                          letter_bit(letter) ? REC_NOT_STANDING : REC_NO_SUCH_LETTER, "letter");
+}
+
+/* Tables of 250 cells: a call in the last mark, and damage there. */
+static void reach_of_full_tables(void)
+{
+    static struct both b;
+    int32_t *last = b.store.cells + REC_LETTERS * REC_CELLS - 1;
+    struct text text;
+    text_clear(&text);
+    text_add(&text, "(X");
+    text_fill(&text, "a", 122);
+    text_add(&text, "z)");
+    both_fresh(&b);
+    for (uint8_t letter = 'a'; letter <= 'z'; letter++)
+        both_define(&b, letter, text.bytes, text.length);
+    check(b.store.used[25] == REC_CELLS, "used count of a full table", "reach");
+    expect_reach(&b, 'm', "amz", "");
+    last[-2] = 251;
+    expect_number(&b.store, 'm', REC_DAMAGED, "false of the last mark");
+    last[-2] = 250;
+    last[0] = 2;
+    expect_number(&b.store, 'm', REC_DAMAGED, "last cell");
+}
+
+/* What U2 says of 27 needs a store made by calls: here a transfer leads into a constant. */
+static void reach_of_hidden_call(void)
+{
+    static struct rec_store store;
+    struct marks marks = *soiled_marks();
+    int32_t list[REC_LIST];
+    struct rec_loan loan = {NULL, 0, list, REC_LIST, NULL, 0};
+    rec_store_fresh(&store);
+    put_cells(store.cells, "2000,4,-175,-119,7,0,1");
+    store.used[0] = 7;
+    check(rec_store_run(store.cells, store.used, store.variables, 'a', 9, &loan).number
+              == REC_NO_TEXT, "run of a hidden call", "");
+    check(rec_store_reach(&store, 'a', marks.reached, marks.missing) == 0
+              && marks.reached[0] == 1 && marks.reached['w' - 'a'] == 0
+              && memchr(marks.missing, 1, REC_LETTERS) == NULL, "reach of a hidden call", "");
+}
+
+static void reach_by_hand(void)
+{
+    reach_of_texts();
+    reach_of_chains();
+    reach_of_histories();
+    for (size_t i = 0; i < sizeof readings / sizeof readings[0]; i++)
+        expect_reading(readings[i].cells, readings[i].used, readings[i].clause);
+    damage_of_each_letter();
+    cells_of_cleared_letters();
+    refusals_of_reach();
+    reach_of_full_tables();
+    reach_of_hidden_call();
 }
 
 /* ---- the desk ---------------------------------------------------------- */
@@ -1538,6 +2283,7 @@ static void random_history(uint64_t seed, unsigned *numbers)
 {
     static struct both b;
     struct random r;
+    struct ways w;
     uint8_t letters[5];
     random_seed(&r, seed);
     for (size_t i = 0; i < 5; i++)
@@ -1546,6 +2292,264 @@ static void random_history(uint64_t seed, unsigned *numbers)
     both_fresh(&b);
     for (int i = between(&r, 5, 60); i > 0; i--)
         random_call(&r, &b, letters, numbers);
+    ways_of_texts(&b, &w);
+    for (uint8_t letter = 'a'; letter <= 'f'; letter++)
+        compare_reach(&b.store, &w, letter, "end of a history");
+}
+
+/* ---- random reaches ---------------------------------------------------- */
+
+static uint8_t any_letter(struct random *r)
+{
+    return (uint8_t)between(r, 'a', 'z');
+}
+
+/* What looks like a call and is none, or parts calls, or nothing. */
+static void no_call(struct random *r, struct text *text)
+{
+    static const char *const marks[] = {";", ":", ",", "X", "F1", "'/7'", "()", "$2$", " ", "0"};
+    bool print = chance(r, 50);
+    switch (below(r, 8)) {
+    case 0: case 1:
+        text_add(text, print ? "''" : "\"");
+        for (int i = between(r, 0, 5); i > 0; i--)
+            text_byte(text, any_letter(r));
+        text_add(text, print ? "'" : "\"");
+        break;
+    case 2:
+        text_add(text, chance(r, 80) ? "'/-" : "'/");
+        text_number(text, any_letter(r));
+        text_add(text, "'");
+        break;
+    case 3:
+        text_add(text, "$");
+        text_number(text, any_letter(r));
+        text_add(text, "$");
+        break;
+    case 4: case 5:
+        text_add(text, marks[below(r, sizeof marks / sizeof marks[0])]);
+        break;
+    default:
+        break;
+    }
+}
+
+/* A text that calls just these letters. */
+static void text_of_calls(struct random *r, const uint8_t *letters, size_t count,
+                          struct text *text)
+{
+    bool plain = chance(r, 20);
+    text_clear(text);
+    text_add(text, "(");
+    for (size_t i = 0; i < count; i++) {
+        bool inner = chance(r, 30);
+        if (!plain)
+            no_call(r, text);
+        text_add(text, inner ? "(" : "");
+        text_byte(text, letters[i]);
+        text_add(text, !inner ? "" : chance(r, 50) ? ";)" : ")");
+    }
+    if (!plain)
+        no_call(r, text);
+    text_add(text, chance(r, 70) ? ";)" : ")");
+}
+
+/* About 250 cells, the last mark a call. */
+static void text_full_of_calls(struct random *r, struct text *text)
+{
+    text_clear(text);
+    text_add(text, "(");
+    text_cells(r, text, (size_t)between(r, 241, 245));
+    text_byte(text, any_letter(r));
+    text_add(text, ")");
+}
+
+static void shuffled_letters(struct random *r, uint8_t letters[REC_LETTERS])
+{
+    for (size_t i = 0; i < REC_LETTERS; i++) {
+        size_t place = below(r, (uint32_t)i + 1);
+        letters[i] = letters[place];
+        letters[place] = (uint8_t)('a' + i);
+    }
+}
+
+/* Of all letters or fewer, with calls back at times; the last calls some letter, or none. */
+static void define_chain(struct random *r, struct both *b)
+{
+    uint8_t letters[REC_LETTERS];
+    size_t length = chance(r, 70) ? REC_LETTERS : (size_t)between(r, 1, REC_LETTERS);
+    struct text text;
+    shuffled_letters(r, letters);
+    for (size_t i = 0; i < length; i++) {
+        bool last = i + 1 == length;
+        uint8_t calls[] = {last ? any_letter(r) : letters[i + 1],
+                           letters[below(r, (uint32_t)i + 1)]};
+        text_of_calls(r, calls, last && chance(r, 50) ? 0 : chance(r, 90) ? 1 : 2, &text);
+        both_define(b, letters[i], text.bytes, text.length);
+    }
+}
+
+/* Calls of any letters, few or more, from most letters or few. */
+static void define_net(struct random *r, struct both *b)
+{
+    uint32_t standing = (uint32_t)between(r, 30, 100);
+    int most = chance(r, 80) ? between(r, 0, 3) : 8;
+    struct text text;
+    for (uint8_t letter = 'a'; letter <= 'z'; letter++) {
+        uint8_t calls[8];
+        for (size_t i = 0; i < 8; i++)
+            calls[i] = chance(r, 5) ? letter : any_letter(r);
+        if (!chance(r, standing))
+            continue;
+        if (chance(r, 20)) {
+            struct taste taste = random_taste(r, calls, 3);
+            taste.size = 60;
+            taste.calls = 20;
+            text_random(r, &taste, &text);
+        } else if (chance(r, 5)) {
+            text_full_of_calls(r, &text);
+        } else {
+            text_of_calls(r, calls, (size_t)between(r, 0, most), &text);
+        }
+        both_define(b, letter, text.bytes, text.length);
+    }
+}
+
+static uint8_t random_letter(struct random *r)
+{
+    return chance(r, 97) ? any_letter(r) : (uint8_t)below(r, 256);
+}
+
+static void reach_after_call(struct random *r, struct both *b)
+{
+    static const int32_t input[] = {3, 0, -1};
+    uint8_t letter = random_letter(r);
+    uint8_t calls[] = {any_letter(r), any_letter(r)};
+    struct text text;
+    struct ways w;
+    switch (below(r, 4)) {
+    case 0:
+        text_of_calls(r, calls, below(r, 3), &text);
+        both_define(b, letter, text.bytes, text.length);
+        break;
+    case 1:
+        both_withdraw(b, letter);
+        break;
+    default:
+        both_run(b, letter, below(r, 300), input, 3, REC_LIST, 100);
+        break;
+    }
+    ways_of_texts(b, &w);
+    compare_reach(&b->store, &w, letter, "after a call");
+    compare_reach(&b->store, &w, random_letter(r), "after a call");
+}
+
+/* Changes what no reading comes to: the reach stays that of the texts. */
+static void reach_past_changes(struct random *r, const struct both *b, struct rec_store *store)
+{
+    struct ways w;
+    *store = b->store;
+    for (int i = between(r, 1, 8); i > 0; i--) {
+        size_t letter = below(r, REC_LETTERS), other = below(r, REC_LETTERS);
+        size_t used = store->used[letter];
+        int32_t *cells = store->cells + letter * REC_CELLS;
+        if (used == 0) {
+            memcpy(cells, store->cells + other * REC_CELLS, REC_CELLS * sizeof cells[0]);
+            cells[1] = chance(r, 50) ? cells[1] : -66;
+            sighted(store->used[other] != 0, CLEARED_CHANGED);
+        } else if (used == REC_CELLS || chance(r, 30)) {
+            cells[0] = -any_letter(r);
+            sighted(true, CELL_1_CHANGED);
+        } else {
+            cells[used] = -66;
+            cells[between(r, (int32_t)used, REC_CELLS - 1)] = -any_letter(r);
+            sighted(true, UNUSED_CHANGED);
+        }
+    }
+    ways_of_texts(b, &w);
+    for (int i = 0; i < 3; i++)
+        compare_reach(store, &w, random_letter(r), "changes that are not read");
+}
+
+/* Something that a clause of 29 may mind. */
+static int32_t random_cell(struct random *r, size_t used)
+{
+    static const int32_t edges[] = {
+        0, 1, 2, 10, 11, 15, 16, 31, 32, 39, 126, 127, 250, 251, -1, -36, -167, -175, -9999,
+        -10000, INT32_MAX, INT32_MIN};
+    switch (below(r, 6)) {
+    case 0:
+        return (int32_t)used + between(r, -2, 2);
+    case 1:
+        return -between(r, 0, 180);
+    case 2:
+        return between(r, 0, 40);
+    case 3:
+        return between(r, REC_VALUE - 1, REC_VALUE + 3);
+    case 4:
+        return -between(r, REC_VALUE - 1, REC_VALUE + 3);
+    default:
+        return edges[below(r, sizeof edges / sizeof edges[0])];
+    }
+}
+
+static void spoil_store(struct random *r, struct rec_store *store)
+{
+    static const size_t counts[] = {0, 1, 2, 3, 250, 251, SIZE_MAX};
+    size_t letter = below(r, REC_LETTERS);
+    size_t used = store->used[letter];
+    uint32_t pick = below(r, 100);
+    if (pick < 3)
+        store->used[letter] = counts[below(r, 7)];
+    else if (pick < 5)
+        store->variables[below(r, REC_VARIABLES)] = random_cell(r, 250);
+    else if (used < 3 || used > REC_CELLS)
+        return;
+    else if (pick < 10)
+        store->used[letter] = used + below(r, 5) - 2;
+    else
+        store->cells[letter * REC_CELLS + (size_t)between(r, 1, (int32_t)used - 1)]
+            = random_cell(r, used);
+}
+
+static void reach_of_spoilt(struct random *r, const struct both *b, struct rec_store *store)
+{
+    struct ways w;
+    bool changed;
+    *store = b->store;
+    for (int i = between(r, 1, 3); i > 0; i--)
+        spoil_store(r, store);
+    changed = memcmp(store->cells, b->store.cells, sizeof store->cells) != 0;
+    ways_of_tables(store, &w);
+    for (int i = 0; i < 3; i++)
+        sighted(compare_reach(store, &w, random_letter(r), "spoilt store") == 0 && changed,
+                CHANGED_AND_SOUND);
+}
+
+static void random_reaches(uint64_t seed)
+{
+    static struct both b;
+    static struct rec_store store;
+    struct random r;
+    struct ways texts, tables;
+    random_seed(&r, ~seed);
+    both_fresh(&b);
+    if (chance(&r, 30))
+        define_chain(&r, &b);
+    else
+        define_net(&r, &b);
+    ways_of_texts(&b, &texts);
+    ways_of_tables(&b.store, &tables);
+    check(memcmp(texts.calls, tables.calls, sizeof texts.calls) == 0
+              && texts.standing == tables.standing && tables.damaged == 0 && !tables.bad,
+          "calls of texts and tables differ", "");
+    for (uint8_t letter = 'a' - 1; letter <= 'z' + 1; letter++)
+        compare_reach(&b.store, &texts, letter, "random texts");
+    for (int i = 0; i < 6; i++)
+        reach_after_call(&r, &b);
+    reach_past_changes(&r, &b, &store);
+    for (int i = 0; i < 6; i++)
+        reach_of_spoilt(&r, &b, &store);
 }
 
 /* ---- all short texts --------------------------------------------------- */
@@ -1557,7 +2561,10 @@ static unsigned short_texts(struct text *text, int more)
     static struct both b;
     unsigned accepted = 0;
     if (compare_accounts(text->bytes, text->length) == 0) {
+        struct ways w;
         both_define(&b, 'a', text->bytes, text->length);
+        ways_of_texts(&b, &w);
+        compare_reach(&b.store, &w, 'a', "short text");
         both_run(&b, 'a', 25, NULL, 0, REC_LIST, 20);
         accepted++;
     }
@@ -1601,6 +2608,7 @@ static bool directed(void)
     refused_copies();
     damage_by_hand();
     refusals_by_hand();
+    reach_by_hand();
     desk_examples();
     desk_edges();
     desk_sizes();
@@ -1614,6 +2622,7 @@ static bool one_history(uint64_t seed)
 {
     in_histories = true;
     random_history(seed, numbers);
+    random_reaches(seed);
     return wrong == 0;
 }
 
@@ -1634,13 +2643,36 @@ static bool counts_of_prints(bool of_histories, unsigned least)
     return good;
 }
 
+/* Each number of a reach, each clause of 29 but a due cell outside the table, which
+ * reading never comes to, and each sight. */
+static bool counts_of_reaches(bool of_histories, unsigned least)
+{
+    bool good = true;
+    for (uint32_t i = 0; i < REC_NUMBERS; i++) {
+        if (i == 0 || i == REC_NO_SUCH_LETTER || i == REC_NOT_STANDING || i == REC_BAD_STORE
+            || i == REC_DAMAGED)
+            good &= met(reaches[of_histories][i], least, "reach: number %u (%s)", (unsigned)i,
+                        number_word(i));
+        else
+            good &= check(reaches[of_histories][i] == 0, "a number that no reach has",
+                          number_word(i));
+    }
+    for (size_t i = REC_LAST_NOT_1; i < REC_CLAUSES; i++)
+        good &= met(clauses[of_histories][i], least, "reach: %s", clause_words[i]);
+    for (size_t i = 0; i < SIGHTS; i++)
+        good &= met(sights[of_histories][i], least, "reach: %s", sight_words[i]);
+    return good;
+}
+
 /* Each number but 14, of desk lines alone, 13 and 29, which no history has, and 30,
  * of clean prints alone. */
 static bool counts(bool only_directed, bool full)
 {
     bool good = true;
-    if (only_directed)
-        return counts_of_prints(false, 1);
+    if (only_directed) {
+        good &= counts_of_prints(false, 1);
+        return counts_of_reaches(false, 1) && good;
+    }
     printf("%u checks\n", tried);
     for (uint32_t i = 0; i < REC_NUMBERS; i++) {
         if (i <= REC_BAD_LIST || (i >= REC_SPENT && i < REC_DAMAGED))
@@ -1648,7 +2680,8 @@ static bool counts(bool only_directed, bool full)
         else
             good &= check(numbers[i] == 0, "a number that no history has", number_word(i));
     }
-    return counts_of_prints(true, full ? 10 : 0) && good;
+    good &= counts_of_prints(true, full ? 10 : 0);
+    return counts_of_reaches(true, full ? 10 : 0) && good;
 }
 
 int main(int count, char **words)

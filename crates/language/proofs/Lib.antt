@@ -23,4 +23,5 @@ pub mod TokensSound
 pub mod Values
 pub mod Ints
 pub mod Tests
+pub mod Keys
 pub mod Copies

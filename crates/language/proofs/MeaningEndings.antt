@@ -1,7 +1,7 @@
--- Which endings can occur: the nested meaning never ends as damaged.
+-- Which endings can occur: the nested meaning never ends as damaged, and it ends as 27 only where a letter that can be called has no text.
 use mathlib.Core.Path.{_≡_, refl, sym, subst}
 use Prim.Native.Nat.{ℕ, zero, suc, _+_, _-_, _%_}
-use mathlib.Core.Bool.{Bool, true, false, cond}
+use mathlib.Core.Bool.{Bool, true, false, cond, false≢true}
 use mathlib.Core.Option.{Option, none, some}
 use mathlib.Core.List.{List, [], _∷_}
 use lib.IntN.{ℤ, pos, natAbs}
@@ -9,7 +9,7 @@ use lib.ListN.{length, getD}
 use lib.Dec.{leb, ltb, eqb}
 use Rattle.language.specs.Bytes.{newlineByte}
 use Rattle.language.specs.declared.Ending.{Ending}
-use Rattle.language.specs.declared.Ending.the-variants.{ListEmpty, ListFull, Range, ZeroDivisor, NoInput, PaperOut}
+use Rattle.language.specs.declared.Ending.the-variants.{Spent, ListEmpty, ListFull, Range, ZeroDivisor, NoInput, PaperOut, NoText, DeepCalls}
 use Rattle.language.specs.Answers.{endingNumber}
 use Rattle.language.specs.Limits.{maxHeight, maxCalls, maxVariables}
 use Rattle.language.specs.Syntax.{Operator, absolute, discard, negate, copy, write, newline, input, add, subtract, multiply, divide, fetch, save}
@@ -24,22 +24,21 @@ use Rattle.language.specs.Meaning.{Outcome, ended, stopped, meaning}
 use Rattle.language.specs.Machine.{onEffect, onVerdict}
 use Rattle.language.proofs.MeaningFollowing.{step, andThen, follow, followed, meaning-followed}
 
--- an ending that is not damage: 20 to 28
-abbrev Proper : Ending → Type 0
-Proper e = between 20 28 (endingNumber e) ≡ true
+-- ── one mark ────────────────────────────────────────────────────────────────────────────────────
 
--- an outcome is stopped by such an ending, if at all
-abbrev pub ProperOutcome : Outcome → Type 0
-ProperOutcome (ended t s r) = Unit {0}
-ProperOutcome (stopped e s r) = Proper e
+-- an ending that is neither damage nor the call of a letter without a text: 20 to 28, and not 27
+abbrev Common : Ending → Bool
+Common e = cond (eqb (endingNumber e) 27) false (between 20 28 (endingNumber e))
 
+-- an operation is stopped by such an ending, if at all
 abbrev ProperEffect : Effect → Type 0
 ProperEffect (goes s) = Unit {0}
-ProperEffect (stops e) = Proper e
+ProperEffect (stops e) = Common e ≡ true
 
+-- and so is a predicate
 abbrev ProperVerdict : Verdict → Type 0
 ProperVerdict (answers t s) = Unit {0}
-ProperVerdict (stalls e) = Proper e
+ProperVerdict (stalls e) = Common e ≡ true
 
 proper-cond : (u : Bool) (x y : Effect) → ProperEffect x → ProperEffect y → ProperEffect (cond u x y)
 proper-cond true x y h k = h
@@ -90,70 +89,125 @@ proper-asked l (condition null) s = asked-cond (ltb (s .height) 1) (stalls ListE
 proper-asked l (condition equal) s = asked-cond (ltb (s .height) 2) (stalls ListEmpty) (answers _ s) refl tt
 proper-asked l (counter m k) s = asked-cond (ltb (getD (s .counts) (countIndex l k) 0) (suc m)) (answers true _) (answers false _) tt tt
 
-proper-step : (r : ℕ) (s : State) (k : ℕ → Outcome) → ((r′ : ℕ) → ProperOutcome (k r′)) → ProperOutcome (step r s k)
-unfolding step
-proper-step zero s k h = refl
-proper-step (suc r) s k h = h r
+-- ── the texts ───────────────────────────────────────────────────────────────────────────────────
 
-proper-effect : (x : Effect) (s : State) (r : ℕ) (k : State → Outcome) → ProperEffect x → ((s′ : State) → ProperOutcome (k s′))
-    → ProperOutcome (onEffect x s r k)
-unfolding onEffect
-proper-effect (goes s′) s r k h f = f s′
-proper-effect (stops e) s r k h f = h
+-- every call of an expression is of a letter with the property R
+abbrev pub AllCalls : (ℕ → Type 0) → Expr → Type 0
+AllCalls R close = Unit {0}
+AllCalls R (semi e) = AllCalls R e
+AllCalls R (colon e) = AllCalls R e
+AllCalls R (operate o e) = AllCalls R e
+AllCalls R (test p e) = AllCalls R e
+AllCalls R (call a e) = R a × AllCalls R e
+AllCalls R (inner f e) = AllCalls R f × AllCalls R e
 
-proper-verdict : (x : Verdict) (s : State) (r : ℕ) (k : Bool → State → Outcome) → ProperVerdict x → ((t : Bool) (s′ : State) → ProperOutcome (k t s′))
-    → ProperOutcome (onVerdict x s r k)
-unfolding onVerdict
-proper-verdict (answers t s′) s r k h f = f t s′
-proper-verdict (stalls e) s r k h f = h
+-- An outcome is stopped by an ending with the property P, if at all.
+abbrev pub StopsSo : (Ending → Type 0) → Outcome → Type 0
+StopsSo P (ended t s r) = Unit {0}
+StopsSo P (stopped e s r) = P e
 
-proper-then : (x : Outcome) (k : Bool → State → ℕ → Outcome) → ProperOutcome x → ((t : Bool) (s : State) (r : ℕ) → ProperOutcome (k t s r))
-    → ProperOutcome (andThen x k)
-unfolding andThen
-proper-then (ended t s r) k h f = f t s r
-proper-then (stopped e s r) k h f = h
+-- Of endings P and letters R: the common endings have P, the calls of a text whose letter has R are of letters that have it, and where one of these
+-- letters has no text, 27 has P.
+module _ (P : Ending → Type 0) (R : ℕ → Type 0) (texts : ℕ → Option Expr)
+    (common : (e : Ending) → Common e ≡ true → P e)
+    (closed : (a : ℕ) (w : Expr) → R a → texts a ≡ some w → AllCalls R w)
+    (absent : (a : ℕ) → R a → texts a ≡ none → P NoText) where
+  stops-step : (r : ℕ) (s : State) (k : ℕ → Outcome) → ((r′ : ℕ) → StopsSo P (k r′)) → StopsSo P (step r s k)
+  unfolding step
+  stops-step zero s k h = common Spent refl
+  stops-step (suc r) s k h = h r
 
-proper-either : (u : Bool) (x y : Outcome) → ProperOutcome x → ProperOutcome y → ProperOutcome (cond u x y)
-proper-either true x y h k = h
-proper-either false x y h k = k
+  stops-effect : (x : Effect) (s : State) (r : ℕ) (k : State → Outcome) → ProperEffect x → ((s′ : State) → StopsSo P (k s′))
+      → StopsSo P (onEffect x s r k)
+  unfolding onEffect
+  stops-effect (goes s′) s r k h f = f s′
+  stops-effect (stops e) s r k h f = common e h
 
-proper-call : (x : Option Expr) (d : ℕ) (s : State) (r : ℕ) (k : Expr → Outcome) → ((v : Expr) → ProperOutcome (k v))
-    → ProperOutcome (onCall x d (λ e. stopped e s r) k)
-unfolding onCall
-proper-call none d s r k f = refl
-proper-call (some v) d s r k f = proper-either (ltb d maxCalls) (k v) _ (f v) refl
+  stops-verdict : (x : Verdict) (s : State) (r : ℕ) (k : Bool → State → Outcome) → ProperVerdict x → ((t : Bool) (s′ : State) → StopsSo P (k t s′))
+      → StopsSo P (onVerdict x s r k)
+  unfolding onVerdict
+  stops-verdict (answers t s′) s r k h f = f t s′
+  stops-verdict (stalls e) s r k h f = common e h
 
-module _ (texts : ℕ → Option Expr) where
-  proper-follow : (again : ℕ → Expr → ℕ → State → ℕ → Outcome)
-      → ((l : ℕ) (w : Expr) (d : ℕ) (s : State) (r : ℕ) → ProperOutcome (again l w d s r))
-      → (e : Expr) (t : Bool) (l : ℕ) (w : Expr) (d : ℕ) (s : State) (r : ℕ) → ProperOutcome (follow texts again l w d e t s r)
+  stops-then : (x : Outcome) (k : Bool → State → ℕ → Outcome) → StopsSo P x → ((t : Bool) (s : State) (r : ℕ) → StopsSo P (k t s r))
+      → StopsSo P (andThen x k)
+  unfolding andThen
+  stops-then (ended t s r) k h f = f t s r
+  stops-then (stopped e s r) k h f = h
+
+  stops-either : (u : Bool) (x y : Outcome) → StopsSo P x → StopsSo P y → StopsSo P (cond u x y)
+  stops-either true x y h k = h
+  stops-either false x y h k = k
+
+  stops-call : (a : ℕ) (x : Option Expr) (d : ℕ) (s : State) (r : ℕ) (k : Expr → Outcome) → R a → texts a ≡ x
+      → ((v : Expr) → AllCalls R v → StopsSo P (k v)) → StopsSo P (onCall x d (λ e. stopped e s r) k)
+  unfolding onCall
+  stops-call a none d s r k ra e f = absent a ra e
+  stops-call a (some v) d s r k ra e f = stops-either (ltb d maxCalls) (k v) _ (f v (closed a v ra e)) (common DeepCalls refl)
+
+  stops-follow : (again : ℕ → Expr → ℕ → State → ℕ → Outcome)
+      → ((l : ℕ) (w : Expr) (d : ℕ) (s : State) (r : ℕ) → AllCalls R w → StopsSo P (again l w d s r))
+      → (e : Expr) (t : Bool) (l : ℕ) (w : Expr) (d : ℕ) (s : State) (r : ℕ) → AllCalls R w → AllCalls R e → StopsSo P (follow texts again l w d e t s r)
   unfolding follow
-  proper-follow again h close true l w d s r = proper-step r s (λ r′. ended false s r′) (λ r′. tt)
-  proper-follow again h (semi e) true l w d s r = proper-step r s (λ r′. ended true s r′) (λ r′. tt)
-  proper-follow again h (colon e) true l w d s r = proper-step r s (λ r′. again l w d s r′) (λ r′. h l w d s r′)
-  proper-follow again h (operate o e) true l w d s r =
-      proper-step r s _ (λ r′. proper-effect (perform o s) s (suc r′) _ (proper-performed o s) (λ s′. proper-follow again h e true l w d s′ r′))
-  proper-follow again h (test p e) true l w d s r =
-      proper-step r s _ (λ r′. proper-verdict (ask l p s) s (suc r′) _ (proper-asked l p s) (λ t s′. proper-follow again h e t l w d s′ r′))
-  proper-follow again h (call a e) true l w d s r =
-      proper-step r s _ (λ r′. proper-call (texts a) d s (suc r′) _
-      (λ v. proper-then (again a v (suc d) s r′) _ (h a v (suc d) s r′) (λ t s′ r″. proper-follow again h e t l w d s′ r″)))
-  proper-follow again h (inner f e) true l w d s r =
-      proper-then (follow texts again l f d f true s r) _ (proper-follow again h f true l f d s r) (λ t s′ r′. proper-follow again h e t l w d s′ r′)
-  proper-follow again h close false l w d s r = tt
-  proper-follow again h (semi e) false l w d s r = proper-follow again h e true l w d s r
-  proper-follow again h (colon e) false l w d s r = proper-follow again h e true l w d s r
-  proper-follow again h (operate o e) false l w d s r = proper-follow again h e false l w d s r
-  proper-follow again h (test p e) false l w d s r = proper-follow again h e false l w d s r
-  proper-follow again h (call a e) false l w d s r = proper-follow again h e false l w d s r
-  proper-follow again h (inner f e) false l w d s r = proper-follow again h e false l w d s r
+  stops-follow again h close true l w d s r cw ce = stops-step r s (λ r′. ended false s r′) (λ r′. tt)
+  stops-follow again h (semi e) true l w d s r cw ce = stops-step r s (λ r′. ended true s r′) (λ r′. tt)
+  stops-follow again h (colon e) true l w d s r cw ce = stops-step r s (λ r′. again l w d s r′) (λ r′. h l w d s r′ cw)
+  stops-follow again h (operate o e) true l w d s r cw ce =
+      stops-step r s _ (λ r′. stops-effect (perform o s) s (suc r′) _ (proper-performed o s) (λ s′. stops-follow again h e true l w d s′ r′ cw ce))
+  stops-follow again h (test p e) true l w d s r cw ce =
+      stops-step r s _ (λ r′. stops-verdict (ask l p s) s (suc r′) _ (proper-asked l p s) (λ t s′. stops-follow again h e t l w d s′ r′ cw ce))
+  stops-follow again h (call a e) true l w d s r cw ce =
+      stops-step r s _ (λ r′. stops-call a (texts a) d s (suc r′) _ (ce .0) refl
+      (λ v cv. stops-then (again a v (suc d) s r′) _ (h a v (suc d) s r′ cv) (λ t s′ r″. stops-follow again h e t l w d s′ r″ cw (ce .1))))
+  stops-follow again h (inner f e) true l w d s r cw ce =
+      stops-then (follow texts again l f d f true s r) _ (stops-follow again h f true l f d s r (ce .0) (ce .0))
+      (λ t s′ r′. stops-follow again h e t l w d s′ r′ cw (ce .1))
+  stops-follow again h close false l w d s r cw ce = tt
+  stops-follow again h (semi e) false l w d s r cw ce = stops-follow again h e true l w d s r cw ce
+  stops-follow again h (colon e) false l w d s r cw ce = stops-follow again h e true l w d s r cw ce
+  stops-follow again h (operate o e) false l w d s r cw ce = stops-follow again h e false l w d s r cw ce
+  stops-follow again h (test p e) false l w d s r cw ce = stops-follow again h e false l w d s r cw ce
+  stops-follow again h (call a e) false l w d s r cw ce = stops-follow again h e false l w d s r cw (ce .1)
+  stops-follow again h (inner f e) false l w d s r cw ce = stops-follow again h e false l w d s r cw (ce .1)
 
-  proper-followed : (g l : ℕ) (w : Expr) (d : ℕ) (s : State) (r : ℕ) → ProperOutcome (followed texts g l w d s r)
+  stops-followed : (g l : ℕ) (w : Expr) (d : ℕ) (s : State) (r : ℕ) → AllCalls R w → StopsSo P (followed texts g l w d s r)
   unfolding followed
-  proper-followed zero l w d s r = refl
-  proper-followed (suc g) l w d s r =
-      proper-follow (followed texts g) (λ l′ w′ d′ s′ r′. proper-followed g l′ w′ d′ s′ r′) w true l w d s r
+  stops-followed zero l w d s r cw = common Spent refl
+  stops-followed (suc g) l w d s r cw =
+      stops-follow (followed texts g) (λ l′ w′ d′ s′ r′ c′. stops-followed g l′ w′ d′ s′ r′ c′) w true l w d s r cw cw
 
-  -- the nested meaning ends, or stops with 20 to 28
-  pub proper-meaning : (g l : ℕ) (w : Expr) (d : ℕ) (s : State) (r : ℕ) → ProperOutcome (meaning texts g l w d s r)
-  proper-meaning g l w d s r = subst ProperOutcome (sym (meaning-followed texts g l w d s r)) (proper-followed g l w d s r)
+  -- The nested meaning of an expression that calls such letters ends, or stops with such an ending.
+  pub stops-meaning : (g l : ℕ) (w : Expr) (d : ℕ) (s : State) (r : ℕ) → AllCalls R w → StopsSo P (meaning texts g l w d s r)
+  stops-meaning g l w d s r cw = subst (StopsSo P) (sym (meaning-followed texts g l w d s r)) (stops-followed g l w d s r cw)
+
+-- ── 20 to 28 ────────────────────────────────────────────────────────────────────────────────────
+
+-- an ending that is not damage
+abbrev Proper : Ending → Type 0
+Proper e = between 20 28 (endingNumber e) ≡ true
+
+-- an outcome is stopped by such an ending, if at all
+abbrev pub ProperOutcome : Outcome → Type 0
+ProperOutcome o = StopsSo Proper o
+
+-- any letter may be called
+any-calls : (w : Expr) → AllCalls (λ _. Unit {0}) w
+any-calls close = tt
+any-calls (semi e) = any-calls e
+any-calls (colon e) = any-calls e
+any-calls (operate o e) = any-calls e
+any-calls (test p e) = any-calls e
+any-calls (call a e) = (tt, any-calls e)
+any-calls (inner f e) = (any-calls f, any-calls e)
+
+common-proper : (e : Ending) → Common e ≡ true → Proper e
+common-proper e h = go (eqb (endingNumber e) 27) h
+  where
+    go : (u : Bool) → cond u false (between 20 28 (endingNumber e)) ≡ true → between 20 28 (endingNumber e) ≡ true
+    go true z = absurd (false≢true z)
+    go false z = z
+
+-- the nested meaning ends, or stops with 20 to 28
+pub proper-meaning : (texts : ℕ → Option Expr) (g l : ℕ) (w : Expr) (d : ℕ) (s : State) (r : ℕ) → ProperOutcome (meaning texts g l w d s r)
+proper-meaning texts g l w d s r =
+    stops-meaning Proper (λ _. Unit {0}) texts common-proper (λ a v h e. any-calls v) (λ a h e. refl) g l w d s r (any-calls w)

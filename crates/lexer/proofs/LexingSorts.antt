@@ -15,7 +15,7 @@ use Rattle.language.specs.Bytes.{blankByte, digitByte, newlineByte, openByte, q
 use Rattle.lexer.specs.declared.Kind.{Kind}
 use Rattle.lexer.specs.declared.Kind.the-variants as K
 use Rattle.language.proofs.Between.{between-bounds}
-use Rattle.lexer.proofs.LexingBytes.{either, in-range}
+use Rattle.language.proofs.Keys.{either, in-range}
 
 -- the byte of a class that has one of several
 abbrev ownByte : Class → ℕ → Bool

@@ -1,3 +1,2 @@
-pub mod LexingBytes
 pub mod LexingSorts
 pub mod Lexing

@@ -9,6 +9,7 @@ ghost use Rattle.numerals.specs.Numerals.{delivers};
 ghost use Rattle.faircopy.specs.FairCopy.{copied};
 ghost use Rattle.book.specs.Calls.{defines, withdraws, running};
 ghost use Rattle.book.specs.Store.{storeOf, freshStore, storeCall, told};
+ghost use Rattle.reach.specs.Reach.{reports, reach};
 ghost use Rattle.console.specs.Day.{dayOf};
 ghost use Rattle.day.specs.Played.{played};
 ghost use Rattle.rec.specs.Doors.{truthFigure, opens, opened, hands, handed, Copies};
@@ -100,6 +101,23 @@ pub extern "C" fn rec_lent_run(
         report.written,
     ];
     report.number
+}
+
+// The letters that the letter reaches, and those of them that have no text, marked 1 and every other letter 0: 0. Where the call is refused, the number
+// of the refusal, and both arrays stay as they were.
+#[no_mangle]
+pub extern "C" fn rec_lent_reach(
+    cells: &[i32; STORE_CELLS],
+    used: &[usize; LETTERS],
+    vars: &[i32; VARIABLES],
+    letter: u8,
+    reached: &mut [u8; LETTERS],
+    missing: &mut [u8; LETTERS],
+) -> u32
+    ensures { λ r. ⌜ reports r (now (reached .exit)) (now (missing .exit))
+        ≡ reach (storeOf (now (cells .entry)) (now (used .entry)) (now (vars .entry))) letter (now (reached .entry)) (now (missing .entry)) ⌝ }
+{
+    reach::reach(cells, used, vars, letter, reached, missing)
 }
 
 // ── a text alone ────────────────────────────────────────────────────────────────────────────────

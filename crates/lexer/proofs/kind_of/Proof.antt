@@ -9,7 +9,7 @@ use types.Run.{OneOf}
 use Rattle.language.specs.Limits.{maxLetters}
 use Rattle.language.specs.Letters.{firstLetter}
 use Rattle.lexer.specs.Lexing.{byteRank, kindRanked, kindOf}
-use Rattle.lexer.proofs.LexingBytes.{either, everyFrom, everyOf, in-range, of-keys, but-keys}
+use Rattle.language.proofs.Keys.{either, everyFrom, everyOf, in-range, of-keys, but-keys}
 use native.Mathlib.Omega.{arith}
 use Rattle.lexer.proofs.kind_of.Statement.{statement}
 use Rattle.lexer.proofs.kind_of.Tie as tie

@@ -1,0 +1,4 @@
+pub mod Marks
+pub mod Rounds
+pub mod Calls
+pub mod Answers

@@ -1,0 +1,103 @@
+-- Laws of lists of marks.
+use mathlib.Core.Path.{_≡_, refl, sym, ap, _∙_, subst}
+use mathlib.Core.Bool.{Bool, true, false, cond, not, _&&_, _||_, false≢true}
+use mathlib.Core.List.{List, [], _∷_}
+use Prim.Native.Nat.{ℕ, zero, suc, _+_, _*_, _-_, _≤_, _<_}
+use native.Mathlib.Omega.{arith}
+use native.Mathlib.Nat.{le-of-suc-le-suc}
+use lib.ListN.{length, getD, set, replicate, length-set}
+use lib.Seq.{ext-getD, getD-set-same, getD-set-other}
+use lib.Dec.{eqb, ltb}
+use borrow.Author.Tests.{eq-eqb, ne-eqb, eqb-true, eqb-false, lt-ltb, le-ltb, ltb-true, ltb-false}
+use Rattle.language.specs.Limits.{maxLetters}
+use Rattle.reach.specs.Reach.{marksBy, isMarked}
+use Rattle.reach.specs.Rounds.{Marks}
+
+-- a test as a mark
+abbrev pub mark : Bool → ℕ
+mark u = cond u 1 0
+
+mark-back : (u : Bool) → eqb (mark u) 1 ≡ u
+mark-back true = refl
+mark-back false = refl
+
+pub length-marks : (n : ℕ) (p : ℕ → Bool) → length (marksBy n p) ≡ n
+length-marks zero p = refl
+length-marks (suc n) p = ap suc (length-marks n (λ b. p (suc b)))
+
+pub getD-marks : (n : ℕ) (p : ℕ → Bool) (b : ℕ) → b < n → getD (marksBy n p) b 0 ≡ mark (p b)
+getD-marks zero p b h = absurd (omega arith)
+getD-marks (suc n) p zero h = refl
+getD-marks (suc n) p (suc b) h = getD-marks n (λ b. p (suc b)) b (le-of-suc-le-suc h)
+
+past-marks : (n : ℕ) (p : ℕ → Bool) (b : ℕ) → n ≤ b → getD (marksBy n p) b 0 ≡ 0
+past-marks zero p b h = refl
+past-marks (suc n) p zero h = absurd (omega arith)
+past-marks (suc n) p (suc b) h = past-marks n (λ b. p (suc b)) b (le-of-suc-le-suc h)
+
+-- a letter is marked where the test holds of it
+pub marked-by : (p : ℕ → Bool) (b : ℕ) → b < maxLetters → isMarked (marksBy maxLetters p) b ≡ p b
+marked-by p b h = ap (λ x. eqb x 1) (getD-marks maxLetters p b h) ∙ mark-back (p b)
+
+-- nothing else is
+pub marked-letter : (p : ℕ → Bool) (b : ℕ) → isMarked (marksBy maxLetters p) b ≡ true → b < maxLetters
+marked-letter p b e = go (ltb b maxLetters) refl
+  where
+    go : (u : Bool) → ltb b maxLetters ≡ u → b < maxLetters
+    go true k = ltb-true b maxLetters k
+    go false k =
+        absurd (false≢true (sym (ap (λ x. eqb x 1) (past-marks maxLetters p b (ltb-false b maxLetters k))) ∙ e))
+
+pub marks-same : (n : ℕ) (p q : ℕ → Bool) → ((b : ℕ) → b < n → p b ≡ q b) → marksBy n p ≡ marksBy n q
+marks-same n p q h =
+    ext-getD 0 (marksBy n p) (marksBy n q) (length-marks n p ∙ sym (length-marks n q))
+    (λ b k. let l : b < n = subst (λ m. b < m) (length-marks n p) k in getD-marks n p b l ∙ ap mark (h b l) ∙ sym (getD-marks n q b l))
+
+-- marks are those of what they mark
+pub marks-of : (p : ℕ → Bool) → Marks (marksBy maxLetters p)
+marks-of p = marks-same maxLetters p (isMarked (marksBy maxLetters p)) (λ b h. sym (marked-by p b h))
+
+-- ── marks that a loop writes one by one ─────────────────────────────────────────────────────────
+
+-- the first i marks are those of a test
+pub record Marking (p : ℕ → Bool) (m : List ℕ) (i : ℕ) : Type 0 where
+  pub size : length m ≡ maxLetters
+  pub few : i ≤ maxLetters
+  pub done : (b : ℕ) → b < i → getD m b 0 ≡ mark (p b)
+
+pub marking-none : (p : ℕ → Bool) (m : List ℕ) → length m ≡ maxLetters → Marking p m 0
+marking-none p m e = record { size = e; few = omega arith; done = λ b h. absurd (omega arith) }
+
+pub marking-more : (p : ℕ → Bool) (m : List ℕ) (i v : ℕ) → Marking p m i → i < maxLetters → v ≡ mark (p i) → Marking p (set m i v) (i + 1)
+marking-more p m i v k h e =
+    record {
+      size = length-set m i v ∙ k .size;
+      few = omega arith;
+      done = λ b l. go b l (eqb b i) refl;
+    }
+  where
+    go : (b : ℕ) → b < i + 1 → (u : Bool) → eqb b i ≡ u → getD (set m i v) b 0 ≡ mark (p b)
+    go b l true q =
+        let z : b ≡ i = eqb-true b i q in
+        subst (λ x. getD (set m i v) x 0 ≡ mark (p x)) (sym z) (getD-set-same m i v 0 (omega (arith, k .size)) ∙ e)
+    go b l false q =
+        let ne = eqb-false b i q in
+        getD-set-other m i b v 0 ne ∙ k .done b (omega (arith, ne))
+
+pub marking-done : (p : ℕ → Bool) (m : List ℕ) (i : ℕ) → Marking p m i → maxLetters ≤ i → m ≡ marksBy maxLetters p
+marking-done p m i k h =
+    ext-getD 0 m (marksBy maxLetters p) (k .size ∙ sym (length-marks maxLetters p))
+    (λ b l. let j : b < maxLetters = subst (λ n. b < n) (k .size) l in k .done b (omega (arith, k .few)) ∙ sym (getD-marks maxLetters p b j))
+
+-- two lists that are the same up to b, and at b
+pub same-more : (x y : List ℕ) (b : ℕ) → ((j : ℕ) → j < b → getD x j 0 ≡ getD y j 0) → getD x b 0 ≡ getD y b 0
+    → (j : ℕ) → j < b + 1 → getD x j 0 ≡ getD y j 0
+same-more x y b h e j l = go (eqb j b) refl
+  where
+    go : (u : Bool) → eqb j b ≡ u → getD x j 0 ≡ getD y j 0
+    go true q = subst (λ k. getD x k 0 ≡ getD y k 0) (sym (eqb-true j b q)) e
+    go false q = h j (let ne = eqb-false j b q in omega (arith, ne))
+
+pub not-not : (u : Bool) → u ≡ not (not u)
+not-not true = refl
+not-not false = refl

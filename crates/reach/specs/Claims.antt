@@ -1,0 +1,53 @@
+-- What is proved of the report, each statement with the name of its proof.
+use mathlib.Core.Path.{_≡_}
+use Prim.Native.Nat.{ℕ}
+use mathlib.Core.Bool.{true, false}
+use mathlib.Core.List.{List}
+use Rattle.language.specs.Letters.{letterIndex}
+use Rattle.language.specs.Tables.{standsAt}
+use Rattle.book.specs.Calls.{Run, Call}
+use Rattle.book.specs.Store.{Store, freshStore}
+use Rattle.book.specs.History.{storeAfter}
+use Rattle.book.specs.Statements.{runAfter}
+use Rattle.reach.specs.Reach.{Reaches, isMarked, Report, reach}
+
+-- "Reached means that some chain of call marks in the standing tables leads there; the letter itself counts as reached." In both directions, for any
+-- store and any letter, unless the call is refused. proofs/Claims `reached-exactly`
+abbrev pub ReachedExactly : Type 0
+ReachedExactly =
+    (st : Store) (l : ℕ) (r m : List ℕ) (b : ℕ) → reach st l r m .number ≡ 0
+    → (isMarked (reach st l r m .reached) b ≡ true → Reaches st (letterIndex l) b)
+    × (Reaches st (letterIndex l) b → isMarked (reach st l r m .reached) b ≡ true)
+
+-- "missing (reached, without a text)". In both directions. proofs/Claims `missing-exactly`
+abbrev pub MissingExactly : Type 0
+MissingExactly =
+    (st : Store) (l : ℕ) (r m : List ℕ) (b : ℕ) → reach st l r m .number ≡ 0
+    → (isMarked (reach st l r m .missing) b ≡ true → Reaches st (letterIndex l) b × (standsAt (st .used) b ≡ false))
+    × (Reaches st (letterIndex l) b × (standsAt (st .used) b ≡ false) → isMarked (reach st l r m .missing) b ≡ true)
+
+-- A refused call leaves both arrays as they were. proofs/Claims `refusal-keeps`
+abbrev pub RefusalKeeps : Type 0
+RefusalKeeps =
+    (st : Store) (l : ℕ) (r m : List ℕ) → (reach st l r m .number ≡ 0 → ⊥)
+    → (reach st l r m .reached ≡ r) × (reach st l r m .missing ≡ m)
+
+-- some letter is marked
+pub record SomeMarked (m : List ℕ) : Type 0 where
+  pub letter : ℕ
+  pub marked : isMarked m letter ≡ true
+
+-- a report that is given, with a letter marked missing
+pub record Warns (x : Report) : Type 0 where
+  pub given : x .number ≡ 0
+  pub missing : SomeMarked (x .missing)
+
+-- "A run of that letter from a sequence-made store may end 27 only when some letter is marked missing." proofs/Claims `ends-no-text`
+abbrev pub EndsNoText : Type 0
+EndsNoText = (cs : List Call) (x : Run) (r m : List ℕ) → runAfter cs x .report .number ≡ 27 → Warns (reach (storeAfter freshStore cs) (x .letter) r m)
+
+-- On a sequence-made store 13 and 29 do not occur here either. proofs/Claims `never-damaged`
+abbrev pub NeverDamaged : Type 0
+NeverDamaged =
+    (cs : List Call) (l : ℕ) (r m : List ℕ)
+    → (reach (storeAfter freshStore cs) l r m .number ≡ 13 → ⊥) × (reach (storeAfter freshStore cs) l r m .number ≡ 29 → ⊥)

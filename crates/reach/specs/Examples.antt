@@ -1,0 +1,1 @@
+-- Examples, to be written.

@@ -1,0 +1,4 @@
+pub mod Reach
+pub mod Rounds
+pub mod Claims
+pub mod Examples

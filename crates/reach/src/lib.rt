@@ -1,0 +1,199 @@
+// What a letter can reach: which letters it may call, through however many others, and which of those have no text.
+ghost use mathlib.Core.Path.{_≡_};
+ghost use mathlib.Core.Bool.{true, cond};
+ghost use lib.Dec.{eqb};
+ghost use Rattle.book.specs.Store.{storeOf};
+ghost use Rattle.marks.specs.Formats.{Row};
+ghost use Rattle.reach.specs.Reach.{spread, spreadBy, mostCalls, missingOf, reports, reach};
+ghost use Rattle.reach.specs.Rounds.{tables, inArray, Counted, ReadsOne, Clear, ReadsAll, Marks, eitherMark, withRow, missingMark};
+use language::Ending;
+use language::LETTERS;
+use language::Refusal;
+use language::STORE_CELLS;
+use language::Table;
+use language::VARIABLES;
+use marks::CALLS;
+
+// A chain that comes to no letter twice has no more calls than this.
+const MOST_CALLS: usize = LETTERS - 1;
+
+// ── the calls of all letters ────────────────────────────────────────────────────────────────────
+
+// Reads the table of letter a, if it stands: whether it is undamaged. The letters that it calls are ticked in its row.
+fn read_one(
+    cells: &[i32; STORE_CELLS],
+    used: &[usize; LETTERS],
+    a: usize,
+    calls: &mut [u8; CALLS],
+) -> bool
+    requires { ⌜ Counted (now used) a ⌝ }
+    ensures { λ r. ⌜ ReadsOne (tables (now (cells .entry)) (now (used .entry))) a (now (calls .entry)) r (now (calls .exit)) ⌝ }
+{
+    let end = used[a];
+    if end == 0 {
+        return true;
+    }
+    marks::read(cells, a * Table::CELLS, end, calls, a * LETTERS)
+}
+
+// Reads every standing table: whether all are undamaged. Then all rows are ticked.
+fn read_all(cells: &[i32; STORE_CELLS], used: &[usize; LETTERS], calls: &mut [u8; CALLS]) -> bool
+    requires { ⌜ Clear (now used) (now calls) ⌝ }
+    ensures { λ r. ⌜ ReadsAll (tables (now (cells .entry)) (now (used .entry))) r (now (calls .exit)) ⌝ }
+{
+    let mut a: usize = 0;
+    while a < LETTERS {
+        if !read_one(cells, used, a, calls) {
+            return false;
+        }
+        a += 1;
+    }
+    true
+}
+
+// ── marks ───────────────────────────────────────────────────────────────────────────────────────
+
+// One of two marks, or both.
+fn either(x: u8, y: u8) -> u8
+    ensures { λ r. ⌜ r ≡ eitherMark x y ⌝ }
+{
+    if x == 1 {
+        return 1;
+    }
+    if y == 1 { 1 } else { 0 }
+}
+
+// What is marked, and what the row of the calls that starts at `from` has.
+fn with_row(calls: &[u8; CALLS], from: usize, marks: [u8; LETTERS]) -> [u8; LETTERS]
+    requires { ⌜ Row from ⌝ }
+    ensures { λ r. ⌜ r ≡ withRow (now (calls .entry)) from marks ⌝ }
+{
+    let mut next = marks;
+    let mut b: usize = 0;
+    while b < LETTERS {
+        next[b] = either(marks[b], calls[from + b]);
+        b += 1;
+    }
+    next
+}
+
+// The same where the letter whose row it is has a mark, else what is marked.
+fn heard(calls: &[u8; CALLS], from: usize, mark: u8, marks: [u8; LETTERS]) -> [u8; LETTERS]
+    requires { ⌜ Row from ⌝ }
+    ensures { λ r. ⌜ r ≡ cond (eqb mark 1) (withRow (now (calls .entry)) from marks) marks ⌝ }
+{
+    if mark == 1 {
+        return with_row(calls, from, marks);
+    }
+    marks
+}
+
+// A call further: what is marked, and what a marked letter calls.
+fn spread(calls: &[u8; CALLS], marks: [u8; LETTERS]) -> [u8; LETTERS]
+    requires { ⌜ Marks marks ⌝ }
+    ensures { λ r. ⌜ r ≡ spread (inArray (now (calls .entry))) marks ⌝ }
+{
+    let mut next = marks;
+    let mut a: usize = 0;
+    while a < LETTERS {
+        let more = heard(calls, a * LETTERS, marks[a], next);
+        next = more;
+        a += 1;
+    }
+    next
+}
+
+// Two arrays of marks are the same.
+fn same(x: [u8; LETTERS], y: [u8; LETTERS]) -> bool
+    ensures { λ r. ⌜ (r ≡ true → x ≡ y) ⌝ }
+{
+    let mut b: usize = 0;
+    while b < LETTERS {
+        if x[b] != y[b] {
+            return false;
+        }
+        b += 1;
+    }
+    true
+}
+
+// All that is reached from what is marked.
+fn follow(calls: &[u8; CALLS], marks: [u8; LETTERS]) -> [u8; LETTERS]
+    requires { ⌜ Marks marks ⌝ }
+    ensures { λ r. ⌜ r ≡ spreadBy (inArray (now (calls .entry))) mostCalls marks ⌝ }
+{
+    let mut reached = marks;
+    let mut n: usize = 0;
+    while n < MOST_CALLS {
+        let next = spread(calls, reached);
+        if same(reached, next) {
+            return reached;
+        }
+        reached = next;
+        n += 1;
+    }
+    reached
+}
+
+// A mark of a letter without a text.
+fn missing_mark(x: u8, end: usize) -> u8
+    ensures { λ r. ⌜ r ≡ missingMark x end ⌝ }
+{
+    if x != 1 {
+        return 0;
+    }
+    if end == 0 { 1 } else { 0 }
+}
+
+// The marked letters that have no text.
+fn without_text(used: &[usize; LETTERS], marks: [u8; LETTERS]) -> [u8; LETTERS]
+    ensures { λ r. ⌜ r ≡ missingOf (now (used .entry)) marks ⌝ }
+{
+    let mut missing = marks;
+    let mut b: usize = 0;
+    while b < LETTERS {
+        missing[b] = missing_mark(marks[b], used[b]);
+        b += 1;
+    }
+    missing
+}
+
+// ── the report ──────────────────────────────────────────────────────────────────────────────────
+
+// The letters that a letter reaches, and those of them that have no text, marked 1 in the two arrays: 0. Where the call is refused, the number of the
+// refusal, and both arrays stay as they were: "13, 1, 10 in that order, then 29".
+pub fn reach(
+    cells: &[i32; STORE_CELLS],
+    used: &[usize; LETTERS],
+    vars: &[i32; VARIABLES],
+    letter: u8,
+    reached: &mut [u8; LETTERS],
+    missing: &mut [u8; LETTERS],
+) -> u32
+    ensures { λ r. ⌜ reports r (now (reached .exit)) (now (missing .exit))
+        ≡ reach (storeOf (now (cells .entry)) (now (used .entry)) (now (vars .entry))) letter (now (reached .entry)) (now (missing .entry)) ⌝ }
+{
+    let values = *vars;
+    let counts = *used;
+    validation::all_there(counts);
+    if !validation::sound_store(used, values) {
+        return Refusal::BadStore.number();
+    }
+    if !validation::is_letter(letter) {
+        return Refusal::NoSuchLetter.number();
+    }
+    let a = (letter - b'a') as usize;
+    if counts[a] == 0 {
+        return Refusal::NotStanding.number();
+    }
+    let mut calls = [0u8; CALLS];
+    if !read_all(cells, used, &mut calls) {
+        return Ending::Damaged.number();
+    }
+    let mut start = [0u8; LETTERS];
+    start[a] = 1;
+    let marks = follow(&calls, start);
+    *reached = marks;
+    *missing = without_text(used, marks);
+    0
+}
