@@ -1,20 +1,10 @@
 /* The calls of a store in plain C, with the checks of include/rec.h's. A run is one loop over the cells. */
 #include "plain_engine.h"
 #include "plain_linker.h"
+#include "plain_store.h"
 #include <string.h>
 
 struct frame { int letter, next, exit; };
-
-static int outside(int32_t value) { return value < -REC_VALUE_MAX || REC_VALUE_MAX < value; }
-
-/* Whether the store keeps its form; else every call of it is refused. */
-static int sound(const rec_store *store) {
-    for (int i = 0; i < REC_LETTERS; i++)
-        if (store->used[i] > REC_CELLS || store->used[i] == 1 || store->used[i] == 2) return 0;
-    for (int i = 0; i < REC_VARIABLES; i++)
-        if (outside(store->vars[i])) return 0;
-    return 1;
-}
 
 void plain_fresh(rec_store *store) { memset(store, 0, sizeof *store); }
 

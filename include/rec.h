@@ -2,14 +2,14 @@
  * The REC engine for C and C++. Link with librec.a (pkg-config rec). docs/C.md is the guide, with a complete program.
  *
  * Every function returns for any text, letter, store contents, inputs, allowance and buffer contents. A function that answers with a number answers 0 or
- * a number of enum rec_number. A refused call (1 to 14, 30, 50) leaves the store, the list, the output, the cells and the paper as they were, and its
- * figures are 0.
+ * a number of enum rec_number. A refused call (1 to 14, 30, 50, and 29 of rec_reach) leaves the store, the list, the output, the cells, the paper and the
+ * marks as they were, and its figures are 0.
  *
  * What the caller sees to, and nothing checks:
  *   pointers    Each points to as many elements as its type or the length after it says, aligned for their type. Where the length is 0 it may be null.
- *               store, report, used and written are never null.
- *   overlap     What a call may write (the store, the list, the output, the report, the cells, the paper, *used, *written) overlaps nothing else that
- *               the call is passed. What it only reads (text, inputs, input) may overlap.
+ *               store, report, used, written, reached and missing are never null.
+ *   overlap     What a call may write (the store, the list, the output, the report, the cells, the paper, the marks, *used, *written) overlaps nothing
+ *               else that the call is passed. What it only reads (text, inputs, input) may overlap.
  *   threads     The library has no data of its own. Any thread may call it; calls at the same time use different stores and buffers.
  *   stack       Below 16 KiB for rec_run and 64 KiB for each other function (docs/C.md has the measured table).
  *
@@ -42,7 +42,8 @@ extern "C" {
 #define REC_VALUE_MAX 999999999 /* values lie from -REC_VALUE_MAX to REC_VALUE_MAX */
 
 /*
- * Document 01's and 02's numbers, and one of this library's own. 1 to 14 refuse a call, 20 to 29 end a run, 30 refuses a fair copy, 50 refuses a day.
+ * Document 01's and 02's numbers, and one of this library's own. 1 to 14 refuse a call, 20 to 29 end a run, 29 also refuses a reach, 30 refuses a fair
+ * copy, 50 refuses a day.
  */
 enum rec_number {
     REC_FINISHED = 0,       /* a run that finished; any other call accepted */
@@ -133,7 +134,6 @@ uint32_t rec_lent_define(int32_t *cells, size_t *used, const int32_t *vars, uint
 uint32_t rec_lent_withdraw(int32_t *cells, size_t *used, const int32_t *vars, uint8_t letter);
 uint32_t rec_lent_run(const int32_t *cells, const size_t *used, int32_t *vars, uint8_t letter, uint32_t allowance, const int32_t *inputs, size_t count,
                       int32_t *list, size_t places, uint8_t *output, size_t room, size_t *figures);
-
 uint32_t rec_lent_reach(const int32_t *cells, const size_t *used, const int32_t *vars, uint8_t letter, uint8_t *reached, uint8_t *missing);
 
 /* ---- a store ---- */

@@ -78,6 +78,7 @@ static uint8_t output[PAPER];
 static size_t room = PAPER; /* of a fair copy */
 static int32_t number; /* of the last call */
 static rec_report report;
+static uint8_t reached[REC_LETTERS], missing[REC_LETTERS];
 
 static void fresh(void) { rec_fresh(&store); }
 static void check(void) { number = rec_check(text.bytes, text.length); }
@@ -101,6 +102,8 @@ static void run(void)
 {
     number = rec_run(&store, letter, allowance, inputs, REC_LIST, list, places, output, PAPER, &report);
 }
+
+static void reach(void) { number = rec_reach(&store, letter, reached, missing); }
 
 /* A day of two lines: the text under q, and a run of it; and a last line that is too long. */
 static void day(void)
@@ -147,7 +150,8 @@ static struct function {
 } functions[] = {{"rec_fresh", fresh, 0},    {"rec_check", check, 0},
                  {"rec_link", link_text, 0}, {"rec_fair_copy", fair_copy, 0},
                  {"rec_define", define, 0},  {"rec_withdraw", withdraw, 0},
-                 {"rec_run", run, 0},        {"rec_day", day, 0}};
+                 {"rec_run", run, 0},        {"rec_reach", reach, 0},
+                 {"rec_day", day, 0}};
 enum { FUNCTIONS = sizeof functions / sizeof functions[0] };
 
 static void try(void (*call)(void))
@@ -251,10 +255,12 @@ static void refusals(void)
     expect(define, REC_NO_SUCH_LETTER);
     expect(withdraw, REC_NO_SUCH_LETTER);
     expect(run, REC_NO_SUCH_LETTER);
+    expect(reach, REC_NO_SUCH_LETTER);
     letter = 'q';
     rec_fresh(&store);
     expect(withdraw, REC_NOT_STANDING);
     expect(run, REC_NOT_STANDING);
+    expect(reach, REC_NOT_STANDING);
     expect(define, 0);
     inputs[REC_LIST - 1] = REC_VALUE_MAX + 1;
     expect(run, REC_BAD_INPUT);
@@ -266,6 +272,7 @@ static void refusals(void)
     expect(define, REC_BAD_STORE);
     expect(withdraw, REC_BAD_STORE);
     expect(run, REC_BAD_STORE);
+    expect(reach, REC_BAD_STORE);
     store.used[25] = 0;
     expect(withdraw, 0);
 }
@@ -290,6 +297,29 @@ static void deep_run(void)
     expect(run, REC_DEEP_CALLS);
     if (report.height != REC_LIST || report.written != 18 + 99 * 19)
         fail("the deep run is not full");
+}
+
+/* Letters that call each other: a circle of 26 with tables of 250 cells, then one letter
+ * without a text and one whose table is damaged; and every kind of mark. */
+static void reaches(void)
+{
+    rec_fresh(&store);
+    for (uint8_t to = 'a'; to <= 'z'; to++) {
+        char call[] = {(char)to, ')', 0};
+        letter = to == 'a' ? 'z' : (uint8_t)(to - 1);
+        text_of("(A", "N", 122, call);
+        expect(define, 0);
+    }
+    expect(reach, 0);
+    if (memchr(reached, 0, sizeof reached) != NULL || store.used['z' - 'a'] != REC_CELLS)
+        fail("the circle is not full");
+    store.used[0] = 0;
+    expect(reach, 0);
+    store.used[0] = REC_CELLS - 1;
+    expect(reach, REC_DAMAGED);
+    rec_fresh(&store);
+    define_as('q', "(F1aS0(bN;:)'/-97'0c$97$d''xy'eJ;+)");
+    expect(reach, 0);
 }
 
 /* Days: of a run that fills the list and prints, and of refused lines. */
@@ -323,6 +353,7 @@ int main(void)
     fair_copies();
     refusals();
     deep_run();
+    reaches();
     damaged_run();
     days();
     random_texts();

@@ -1,6 +1,6 @@
 /*
- * A till: checks texts, and shows where the first fault of a refused text is; or prints the fair copies of texts. `usage` says how it is called, and its
- * exit status.
+ * A till: checks texts, and shows where the first fault of a refused text is; or prints the fair copies of texts; or says which letters each letter
+ * calls, and which of those have no text. `usage` says how it is called, and its exit status.
  */
 #include "rec.h"
 #include <errno.h>
@@ -17,6 +17,7 @@ static const char usage[] =
     "    till -t FILE..   each file is one text, which may hold newlines\n"
     "    till -r [FILE]   records, so that a text may hold any byte: a line with the length of the\n"
     "                     text in bytes, the text, a newline\n"
+    "    till -c [FILE]   what each letter calls, see below\n"
     "    till -h          prints this\n"
     "\n"
     "With -f before the rest (-f [FILE], -f -t FILE.., -f -r [FILE]) it prints instead a line with\n"
@@ -24,10 +25,16 @@ static const char usage[] =
     "lines stay desk lines: `D` and letter before the copy, `X` and `R` lines as they stand. A\n"
     "refused text has no copy; what is said above of it goes to standard error.\n"
     "\n"
-    "Without FILE it reads standard input. Exit status: 0 every text links; 1 a text is refused;\n"
-    "2 a file cannot be read, records break their form, the output cannot be written, wrong use.\n";
+    "With -c it starts without texts and obeys desk lines as the desk does; `R` lines are passed\n"
+    "over. Then it prints a line for each letter that stands: all letters that it reaches, by calls\n"
+    "and by calls of the letters called, itself included; and as missing those that have no text.\n"
+    "A refused line changes nothing, and goes to standard error with its number and word.\n"
+    "\n"
+    "Without FILE it reads standard input. Exit status: 0 every text links; 1 a text is refused,\n"
+    "or with -c a line is refused or a letter is missing; 2 a file cannot be read, records break\n"
+    "their form, the output cannot be written, wrong use.\n";
 
-enum { LINKED, REFUSED, FAILED };
+enum { LINKED, REFUSED, FAILED }; /* REFUSED: also where a letter is missing */
 
 /* The exit status: the worst of what has happened. */
 static int status = LINKED;
@@ -105,13 +112,19 @@ static struct view view_of(const uint8_t *text, size_t length, size_t at) {
     return v;
 }
 
+/* What stands where a line is cut before its first shown byte. */
+static const char *cut_before(const struct view *v) { return v->first > v->from ? "..." : ""; }
+
+static void show_view(FILE *out, const uint8_t *text, const struct view *v) {
+    fprintf(out, "%*s%s", MARGIN, "", cut_before(v));
+    for (size_t i = v->first; i < v->last; i++) putc(printable(text[i]) ? text[i] : '?', out);
+    fputs(v->last < v->to ? "...\n" : "\n", out);
+}
+
 static void show(FILE *out, const uint8_t *text, size_t length, size_t at) {
     struct view v = view_of(text, length, at);
-    const char *cut = v.first > v.from ? "..." : "";
-    fprintf(out, "%*s%s", MARGIN, "", cut);
-    for (size_t i = v.first; i < v.last; i++) putc(printable(text[i]) ? text[i] : '?', out);
-    fputs(v.last < v.to ? "...\n" : "\n", out);
-    fprintf(out, "%*s^\n", (int)(MARGIN + strlen(cut) + (at - v.first)), "");
+    show_view(out, text, &v);
+    fprintf(out, "%*s^\n", (int)(MARGIN + strlen(cut_before(&v)) + (at - v.first)), "");
 }
 
 /* Where a refused text is at fault: at a byte, or at its end. */
@@ -129,11 +142,16 @@ static void show_fault(FILE *out, const uint8_t *text, size_t length, int32_t nu
 
 /* ---- a text ---- */
 
+/* Number and word of what is refused. */
+static void report_number(FILE *out, size_t place, int32_t number) {
+    fprintf(out, "%4zu %3d %s", place, (int)number, rec_word(number));
+    worsen(REFUSED);
+}
+
 /* Number, word and fault of a refused text. */
 static void report(FILE *out, size_t place, const uint8_t *text, size_t length, int32_t number) {
-    fprintf(out, "%4zu %3d %s", place, (int)number, rec_word(number));
+    report_number(out, place, number);
     show_fault(out, text, length, number);
-    worsen(REFUSED);
 }
 
 static void check(size_t place, const uint8_t *text, size_t length) {
@@ -220,18 +238,20 @@ static void read_bytes(const struct source *s, struct bytes *b, size_t most) {
     while (b->length < most && (c = next_byte(s)) != EOF) push(b, c);
 }
 
+/* ---- desk lines ---- */
+
+enum { WITHDRAW = 3, DEFINE = 4 }; /* `X`, blank, letter; `D`, blank, letter, blank */
+
+/* A desk line begins so, and no text does. */
+static int begins(const struct bytes *line, uint8_t kind) { return line->length >= 2 && line->at[0] == kind && line->at[1] == ' '; }
+
+static int is_define(const struct bytes *line) { return line->length >= DEFINE && begins(line, 'D') && line->at[3] == ' '; }
+
+static int is_withdraw(const struct bytes *line) { return line->length == WITHDRAW && begins(line, 'X'); }
+
+static int has_no_text(const struct bytes *line) { return begins(line, 'X') || begins(line, 'R'); }
+
 /* ---- the three forms ---- */
-
-enum { DEFINE = 4 }; /* `D`, blank, letter, blank */
-
-static int is_define(const struct bytes *line) {
-    return line->length >= DEFINE && line->at[0] == 'D' && line->at[1] == ' ' && line->at[3] == ' ';
-}
-
-/* No text begins so. */
-static int has_no_text(const struct bytes *line) {
-    return line->length >= 2 && (line->at[0] == 'X' || line->at[0] == 'R') && line->at[1] == ' ';
-}
 
 /* A line without a text: only among fair copies does it stay. */
 static void pass_over(const struct bytes *line) {
@@ -306,6 +326,66 @@ static void take_files(char **names, int count) {
     free(text.at);
 }
 
+/* ---- what each letter calls ---- */
+
+enum { LINE = 300, LINES = 9999 }; /* the desk's: bytes of a line, and lines that it reads */
+
+/* Obeys a line as the desk does, and answers as it does; but a run, which changes no text, is passed over. */
+static int32_t obey(rec_store *store, const struct bytes *line) {
+    if (begins(line, 'R')) return REC_FINISHED;
+    if (line->length > LINE) return REC_BAD_LINE;
+    if (is_define(line)) return rec_define(store, line->at[2], line->at + DEFINE, line->length - DEFINE);
+    if (is_withdraw(line)) return rec_withdraw(store, line->at[2]);
+    return REC_BAD_LINE;
+}
+
+static int is_of_text(int32_t number) { return number >= REC_LONG_TEXT && number <= REC_MANY_COUNTERS; }
+
+/* A refused line: where its text is at fault, as of any text; else the line. */
+static void report_line(size_t place, const struct bytes *line, int32_t number) {
+    if (is_of_text(number)) {
+        report(stderr, place, line->at + DEFINE, line->length - DEFINE, number);
+    } else {
+        struct view v = view_of(line->at, line->length, 0);
+        report_number(stderr, place, number);
+        putc('\n', stderr);
+        show_view(stderr, line->at, &v);
+    }
+}
+
+static void print_marked(const char *word, const uint8_t marks[REC_LETTERS]) {
+    fputs(word, stdout);
+    for (int k = 0; k < REC_LETTERS; k++)
+        if (marks[k]) printf(" %c", 'a' + k);
+}
+
+/* A line for each letter that stands. Every other letter is refused, with 10; 13 and 29 do not occur in a store that only calls have changed. */
+static void print_calls(const rec_store *store) {
+    uint8_t reached[REC_LETTERS], missing[REC_LETTERS];
+    for (int letter = 'a'; letter <= 'z'; letter++) {
+        if (rec_reach(store, (uint8_t)letter, reached, missing) != REC_FINISHED) continue;
+        putchar(letter);
+        print_marked(" reaches", reached);
+        if (memchr(missing, 1, sizeof missing) != NULL) {
+            print_marked(", missing", missing);
+            worsen(REFUSED);
+        }
+        putchar('\n');
+    }
+}
+
+static void take_calls(const struct source *s) {
+    static rec_store store;
+    struct bytes line = {NULL, 0, 0};
+    rec_fresh(&store);
+    for (size_t place = 1; place <= LINES && read_line(s, &line); place++) {
+        int32_t number = obey(&store, &line);
+        if (number != REC_FINISHED) report_line(place, &line, number);
+    }
+    free(line.at);
+    if (!ferror(s->in)) print_calls(&store);
+}
+
 /* ---- use ---- */
 
 /* Options come first, so no name begins as they do. */
@@ -330,6 +410,7 @@ int main(int argc, char **argv) {
     else if (!are_names(names, count)) wrong_use();
     else if (strcmp(option, "-t") == 0 && count > 0) take_files(names, count);
     else if (strcmp(option, "-r") == 0 && count <= 1) take_from(names[0], take_records);
+    else if (strcmp(option, "-c") == 0 && !fair && count <= 1) take_from(names[0], take_calls);
     else if (!options && count <= 1) take_from(names[0], take_lines);
     else wrong_use();
     if (fflush(stdout) != 0 || ferror(stdout) || fclose(stdout) != 0) complain("standard output", "cannot be written");

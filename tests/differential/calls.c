@@ -134,6 +134,9 @@ bool same_variables(const int32_t *expected, const int32_t *got)
 bool same_tables(const struct rec_store *expected, const struct rec_store *got)
 {
     bool good = true;
+    if (memcmp(expected->used, got->used, sizeof got->used) == 0
+        && memcmp(expected->cells, got->cells, sizeof got->cells) == 0)
+        return true;
     for (size_t i = 0; i < REC_LETTERS; i++)
         good &= same("used cells of letter", (long long)i + 1, (long long)expected->used[i],
                      (long long)got->used[i]);
@@ -159,6 +162,22 @@ void show_call(const struct call *call)
         }
     }
     putchar('\n');
+}
+
+void choose_loan(struct random *r, struct call *call)
+{
+    static const size_t lists[] = {0, 63, 65, 1, 100};
+    static const size_t outputs[] = {11, 12, 13, 23, 24, 25, 36, 100, 4095, 4096, 5200};
+    static const int32_t odd[] = {1000000000, -1000000000, INT32_MIN, INT32_MAX};
+    call->input_length = below(r, chance(r, 85) ? 8 : INPUT_ROOM);
+    for (size_t i = 0; i < call->input_length; i++)
+        call->input[i] = random_value(r);
+    if (call->input_length > 0 && chance(r, 3))
+        call->input[below(r, (uint32_t)call->input_length)] = odd[below(r, 4)];
+    call->list_length = chance(r, 96) ? REC_LIST : lists[below(r, 5)];
+    call->output_length = chance(r, 40)   ? 4096
+                          : chance(r, 50) ? below(r, 30)
+                                          : outputs[below(r, 11)];
 }
 
 uint32_t suit_allowance(struct random *r, const struct side *ended, uint32_t trial)

@@ -26,6 +26,9 @@ bool same_variables(const int32_t *expected, const int32_t *got);
 bool same_tables(const struct rec_store *expected, const struct rec_store *got);
 void show_call(const struct call *call);
 
+/* Inputs, list and output of a run, most of them good. */
+void choose_loan(struct random *r, struct call *call);
+
 /* An allowance that suits how a run ended with the allowance `trial`. */
 uint32_t suit_allowance(struct random *r, const struct side *ended, uint32_t trial);
 

@@ -35,16 +35,21 @@ static void put(const int32_t *cells, const size_t *used, const int32_t *variabl
         lent.store.vars[(i + 1) % REC_VARIABLES] = variables[i];
 }
 
+static bool beside_stayed(void)
+{
+    if (stayed(lent.before) && stayed(lent.between) && stayed(lent.behind))
+        return true;
+    puts("  written beside the store or the report");
+    return false;
+}
+
 static bool get(int32_t *cells, size_t *used, int32_t *variables)
 {
     memcpy(cells, lent.store.cells, sizeof lent.store.cells);
     memcpy(used, lent.store.used, sizeof lent.store.used);
     for (size_t i = 0; i < REC_VARIABLES; i++)
         variables[i] = lent.store.vars[(i + 1) % REC_VARIABLES];
-    if (stayed(lent.before) && stayed(lent.between) && stayed(lent.behind))
-        return true;
-    puts("  written beside the store or the report");
-    return false;
+    return beside_stayed();
 }
 
 /* ---- calls --------------------------------------------------------------- */
@@ -85,6 +90,21 @@ bool engine_call(int32_t *cells, size_t *used, int32_t *variables, const struct 
         : call->kind == WITHDRAW ? rec_withdraw(&lent.store, call->letter)
                                  : run(call, side));
     return get(cells, used, variables);
+}
+
+bool engine_reach(const int32_t *cells, const size_t *used, const int32_t *variables,
+                  uint8_t letter, uint8_t *reached, uint8_t *missing, uint32_t *number)
+{
+    static rec_store before;
+    bool good = true;
+    put(cells, used, variables);
+    before = lent.store;
+    *number = (uint32_t)rec_reach(&lent.store, letter, reached, missing);
+    if (memcmp(&before, &lent.store, sizeof before) != 0) {
+        puts("  written in the store");
+        good = false;
+    }
+    return beside_stayed() && good;
 }
 
 int32_t engine_check(const uint8_t *text, size_t length)

@@ -47,6 +47,10 @@ bool engine_fresh(int32_t *cells, size_t *used, int32_t *variables);
 bool engine_call(int32_t *cells, size_t *used, int32_t *variables, const struct call *call,
                  struct side *side);
 
+/* The same contents; 26 marks each. False: the call wrote in the store or beside it. */
+bool engine_reach(const int32_t *cells, const size_t *used, const int32_t *variables,
+                  uint8_t letter, uint8_t *reached, uint8_t *missing, uint32_t *number);
+
 int32_t engine_check(const uint8_t *text, size_t length);
 int32_t engine_link(const uint8_t *text, size_t length, int32_t *cells, size_t room, size_t *used);
 int32_t engine_fair_copy(const uint8_t *text, size_t length, uint8_t *paper, size_t room,

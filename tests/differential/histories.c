@@ -173,14 +173,6 @@ static bool directed(void)
 
 /* ---- rounds ------------------------------------------------------------ */
 
-/* Texts whose runs meet something; they call the letters a to f. */
-static const char *const known[] = {
-    "(0L'/1';'/1'-d'/2'*;)", "(Id;)", "(a)", "(Ib;)", "((b;c)(c;b)$2$:;)", "($5$b''r'b;$2$X;)",
-    "(a;b;c:)", "('/1':)", "(P:)", "(IP:)", "('/9'('/9'*O:))", "(II/O:)", "(II*O:)", "(IIIIII/*+-;)",
-    "(F1'/1'+S1:)", "(F1'/1'+S1S0L;)", "(IS3LF3O;)", "('/1'S2'/0'/)", "($70$'/5':;)", "($3$I:;)",
-    "(IIII;)", "(II)", "(I0;IN;IJ;)", "($2$;''f'f:)", "(IS1LIS2L;)", "(F1F2F3OOO)", "(e)", "(''abc'X:)",
-    "(\nI\n\"in\nput\"\n;)", "(INf;e)", "('/999999999'I+)", "((I;)(I;);)"};
-
 static uint8_t some_letter(struct random *r)
 {
     uint32_t pick = below(r, 100);
@@ -201,37 +193,11 @@ static uint8_t run_letter(struct random *r, const struct rec_book *book)
     return letter;
 }
 
-static void choose_define(struct random *r, struct text *text)
-{
-    static const uint8_t letters[] = "abcdef";
-    struct taste taste = random_taste(r, letters, LETTERS);
-    uint32_t pick = below(r, 100);
-    taste.newlines = 20;
-    text_clear(text);
-    if (pick < 35)
-        text_add(text, known[below(r, sizeof known / sizeof known[0])]);
-    else if (pick < 80)
-        text_random(r, &taste, text);
-    else
-        text_hard(r, letters, LETTERS, text);
-}
-
 static void choose_run(struct random *r, struct both *b, struct call *call)
 {
-    static const size_t lists[] = {0, 63, 65, 1, 100};
-    static const size_t outputs[] = {11, 12, 13, 23, 24, 25, 36, 100, 4095, 4096, 5200};
-    static const int32_t odd[] = {1000000000, -1000000000, INT32_MIN, INT32_MAX};
     static struct side ended;
     int32_t variables[REC_VARIABLES];
-    call->input_length = below(r, chance(r, 85) ? 8 : INPUT_ROOM);
-    for (size_t i = 0; i < call->input_length; i++)
-        call->input[i] = random_value(r);
-    if (call->input_length > 0 && chance(r, 3))
-        call->input[below(r, (uint32_t)call->input_length)] = odd[below(r, 4)];
-    call->list_length = chance(r, 96) ? REC_LIST : lists[below(r, 5)];
-    call->output_length = chance(r, 40)   ? 4096
-                          : chance(r, 50) ? below(r, 30)
-                                          : outputs[below(r, 11)];
+    choose_loan(r, call);
     memcpy(variables, b->book.variables, sizeof variables);
     call->allowance = TRIAL;
     call_book(&b->book, call, &ended);
@@ -247,7 +213,7 @@ static void choose_call(struct random *r, struct both *b, struct call *call)
     if (call->kind == RUN)
         choose_run(r, b, call);
     if (call->kind == DEFINE)
-        choose_define(r, &call->text);
+        text_lively(r, &call->text);
 }
 
 static bool round_of(uint64_t seed)

@@ -674,6 +674,31 @@ void text_hard(struct random *r, const uint8_t *letters, size_t count, struct te
     }
 }
 
+/* ---- lively texts ------------------------------------------------------ */
+
+static const char *const known[] = {
+    "(0L'/1';'/1'-d'/2'*;)", "(Id;)", "(a)", "(Ib;)", "((b;c)(c;b)$2$:;)", "($5$b''r'b;$2$X;)",
+    "(a;b;c:)", "('/1':)", "(P:)", "(IP:)", "('/9'('/9'*O:))", "(II/O:)", "(II*O:)", "(IIIIII/*+-;)",
+    "(F1'/1'+S1:)", "(F1'/1'+S1S0L;)", "(IS3LF3O;)", "('/1'S2'/0'/)", "($70$'/5':;)", "($3$I:;)",
+    "(IIII;)", "(II)", "(I0;IN;IJ;)", "($2$;''f'f:)", "(IS1LIS2L;)", "(F1F2F3OOO)", "(e)", "(''abc'X:)",
+    "(\nI\n\"in\nput\"\n;)", "(INf;e)", "('/999999999'I+)", "((I;)(I;);)"};
+
+void text_lively(struct random *r, struct text *text)
+{
+    static const uint8_t letters[] = "abcdef";
+    size_t count = sizeof letters - 1;
+    struct taste taste = random_taste(r, letters, count);
+    uint32_t pick = below(r, 100);
+    taste.newlines = 20;
+    text_clear(text);
+    if (pick < 35)
+        text_add(text, PICK(r, known));
+    else if (pick < 80)
+        text_random(r, &taste, text);
+    else
+        text_hard(r, letters, count, text);
+}
+
 /* ---- untidy texts ------------------------------------------------------ */
 
 void text_brim(struct random *r, struct text *text)

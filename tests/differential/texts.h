@@ -54,6 +54,10 @@ void text_hard(struct random *r, const uint8_t *letters, size_t count, struct te
 void text_soup(struct random *r, struct text *text); /* marks in any order */
 void text_raw(struct random *r, struct text *text);  /* bytes of all values */
 
+/* Texts for a list of calls: known ones whose runs meet something, random and hard
+ * ones. They call the letters `a` to `f`. */
+void text_lively(struct random *r, struct text *text);
+
 /* Marks of so many cells, 16 counters at most, expressions closed. */
 void text_cells(struct random *r, struct text *text, size_t cells);
 

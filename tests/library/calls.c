@@ -16,14 +16,23 @@ static struct {
     uint64_t guard_d;
     rec_report report;
     uint64_t guard_e;
+    uint8_t reached[REC_LETTERS];
+    uint64_t guard_f;
+    uint8_t missing[REC_LETTERS];
+    uint64_t guard_g;
 } lent;
 
 static const uint64_t guard = 0x5a5aa5a53c3cc3c3;
 
-static void set_guards(void) { lent.guard_a = lent.guard_b = lent.guard_c = lent.guard_d = lent.guard_e = guard; }
+static rec_store before; /* a store that a call must leave as it is */
+
+static void set_guards(void) {
+    lent.guard_a = lent.guard_b = lent.guard_c = lent.guard_d = lent.guard_e = lent.guard_f = lent.guard_g = guard;
+}
 
 static int guarded(void) {
-    return lent.guard_a == guard && lent.guard_b == guard && lent.guard_c == guard && lent.guard_d == guard && lent.guard_e == guard;
+    return lent.guard_a == guard && lent.guard_b == guard && lent.guard_c == guard && lent.guard_d == guard && lent.guard_e == guard &&
+           lent.guard_f == guard && lent.guard_g == guard;
 }
 
 static int32_t define(char letter, const char *text) { return rec_define(&lent.store, (uint8_t)letter, (const uint8_t *)text, strlen(text)); }
@@ -126,6 +135,81 @@ static void ends_of_a_run(void) {
     HOLDS(run('p', inputs, 2) == REC_NOT_STANDING);
 }
 
+/* ---- what a letter can reach ---- */
+
+/* A reach with the marks full of bytes that are none. */
+static int32_t reach(char letter) {
+    memset(lent.reached, MARK, sizeof lent.reached);
+    memset(lent.missing, MARK, sizeof lent.missing);
+    before = lent.store;
+    return rec_reach(&lent.store, (uint8_t)letter, lent.reached, lent.missing);
+}
+
+static int unchanged(void) { return memcmp(&before, &lent.store, sizeof before) == 0; }
+
+/* The marks of these letters are 1, and all others 0. */
+static int marked(const uint8_t *marks, const char *letters) {
+    for (int k = 0; k < REC_LETTERS; k++)
+        if (marks[k] != (strchr(letters, 'a' + k) != NULL)) return 0;
+    return 1;
+}
+
+static int reports(char letter, const char *reached, const char *missing) {
+    return reach(letter) == REC_FINISHED && marked(lent.reached, reached) && marked(lent.missing, missing) && unchanged();
+}
+
+static int refused_reach(int32_t number, char letter) {
+    return reach(letter) == number && all_bytes(lent.reached, REC_LETTERS, MARK) && all_bytes(lent.missing, REC_LETTERS, MARK) && unchanged();
+}
+
+/* A circle, a call of itself, a letter without a text, which a run then calls; prints, comments and numbers call nothing. */
+static void reaches(void) {
+    fresh();
+    HOLDS(define('a', "(b;)") == REC_FINISHED && reports('a', "ab", "b"));
+    HOLDS(define('b', "(m;a)") == REC_FINISHED && reports('a', "abm", "m") && reports('b', "abm", "m"));
+    HOLDS(run('a', NULL, 0) == REC_NO_TEXT);
+    HOLDS(define('m', "(;zm)") == REC_FINISHED && reports('a', "abmz", "z") && reports('m', "mz", "z"));
+    HOLDS(run('a', NULL, 0) == REC_FINISHED);
+    HOLDS(define('z', "(''cd'\"ef\"'/-103'$104$)") == REC_FINISHED && reports('a', "abmz", "") && reports('z', "z", ""));
+    HOLDS(rec_withdraw(&lent.store, 'b') == REC_FINISHED && reports('a', "ab", "b") && reports('m', "mz", ""));
+    HOLDS(refused_reach(REC_NOT_STANDING, 'b'));
+}
+
+/* All 26 letters in a row: the mark of each stands in its place. */
+static void reaches_of_all(void) {
+    static const char letters[] = "abcdefghijklmnopqrstuvwxyz";
+    fresh();
+    for (size_t k = 0; k + 1 < REC_LETTERS; k++) {
+        char text[] = "( ;)";
+        text[1] = letters[k + 1];
+        HOLDS(define(letters[k], text) == REC_FINISHED);
+    }
+    for (size_t k = 0; k + 1 < REC_LETTERS; k++) HOLDS(reports(letters[k], letters + k, "z"));
+    HOLDS(refused_reach(REC_NOT_STANDING, 'z'));
+    HOLDS(define('z', "(a;)") == REC_FINISHED);
+    for (size_t k = 0; k < REC_LETTERS; k++) HOLDS(reports(letters[k], letters, ""));
+}
+
+/* Every refusal alone, and where several fit the first of 13, 1, 10 and 29. */
+static void refused_reaches(void) {
+    fresh();
+    HOLDS(define('q', "(q;)") == REC_FINISHED && define('r', "(N;)") == REC_FINISHED && reports('q', "q", ""));
+    HOLDS(refused_reach(REC_NO_SUCH_LETTER, 'Q') && refused_reach(REC_NO_SUCH_LETTER, 'a' - 1) && refused_reach(REC_NO_SUCH_LETTER, 'z' + 1));
+    HOLDS(refused_reach(REC_NOT_STANDING, 'a'));
+    lent.store.cells[17 * REC_CELLS + 2] = 1; /* what N does on false, in a table that q does not reach */
+    HOLDS(refused_reach(REC_DAMAGED, 'q') && refused_reach(REC_DAMAGED, 'r'));
+    HOLDS(run('q', NULL, 0) == REC_DEEP_CALLS);
+    HOLDS(refused_reach(REC_NO_SUCH_LETTER, 'Q') && refused_reach(REC_NOT_STANDING, 'a'));
+    lent.store.vars[0] = REC_VALUE_MAX + 1;
+    HOLDS(refused_reach(REC_BAD_STORE, 'q') && refused_reach(REC_BAD_STORE, 'a') && refused_reach(REC_BAD_STORE, 'Q'));
+    lent.store.vars[0] = REC_VALUE_MAX;
+    lent.store.used[25] = REC_CELLS + 1;
+    HOLDS(refused_reach(REC_BAD_STORE, 'q') && refused_reach(REC_BAD_STORE, 'a') && refused_reach(REC_BAD_STORE, 'Q'));
+    lent.store.used[25] = 0;
+    lent.store.cells[17 * REC_CELLS + 2] = 5;
+    HOLDS(reports('q', "q", "") && reports('r', "r", ""));
+}
+
 /* ---- null with length 0 ---- */
 
 static void nulls(void) {
@@ -145,8 +229,6 @@ static void nulls(void) {
 }
 
 /* ---- refusals: the number, and nothing changed ---- */
-
-static rec_store before;
 
 static int refused_define(int32_t number, char letter, const char *text) {
     before = lent.store;
@@ -292,6 +374,9 @@ int main(void) {
     figures_of_a_run();
     just_enough();
     ends_of_a_run();
+    reaches();
+    reaches_of_all();
+    refused_reaches();
     nulls();
     refusals();
     links();

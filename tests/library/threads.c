@@ -10,8 +10,8 @@ enum { THREADS = 8, CALLS = 20000, PAPER = 300, ALLOWANCE = 500 };
 /* A list of calls, made of its seed alone, and what came of it. */
 struct day {
     uint32_t seed;
-    uint64_t sum; /* of all answers, figures, lists, outputs, fair copies and of the store at the end */
-    int finished, stopped, refused, copied;
+    uint64_t sum; /* of all answers, figures, lists, outputs, fair copies, marks and of the store at the end */
+    int finished, stopped, refused, copied, reported;
 };
 
 static uint32_t draw(uint32_t *state, uint32_t below) {
@@ -49,7 +49,7 @@ static void call(struct day *d, rec_store *store, uint32_t *state) {
     uint8_t paper[PAPER];
     rec_report report;
     uint8_t letter = (uint8_t)('a' + draw(state, 4));
-    uint32_t kind = draw(state, 11);
+    uint32_t kind = draw(state, 12);
     if (kind < 3) {
         add_answer(d, rec_define(store, letter, (const uint8_t *)text, write_text(text, state)));
     } else if (kind == 3) {
@@ -60,6 +60,13 @@ static void call(struct day *d, rec_store *store, uint32_t *state) {
         add_answer(d, answer);
         add(d, paper, written);
         if (answer == REC_FINISHED) d->copied++;
+    } else if (kind == 5) {
+        uint8_t reached[REC_LETTERS] = {0}, missing[REC_LETTERS] = {0};
+        int32_t answer = rec_reach(store, letter, reached, missing);
+        add_answer(d, answer);
+        add(d, reached, sizeof reached);
+        add(d, missing, sizeof missing);
+        if (answer == REC_FINISHED) d->reported++;
     } else {
         for (int i = 0; i < 4; i++) inputs[i] = (int32_t)draw(state, 1000) - 500;
         int32_t answer = rec_run(store, letter, ALLOWANCE, inputs, 4, list, REC_LIST, paper, PAPER, &report);
@@ -93,7 +100,8 @@ int main(void) {
     for (int k = 0; k < THREADS; k++) HOLDS(pthread_join(threads[k], NULL) == 0);
     for (int k = 0; k < THREADS; k++) {
         HOLDS(together[k].sum == alone[k].sum);
-        HOLDS(alone[k].finished > CALLS / 10 && alone[k].stopped > CALLS / 20 && alone[k].refused > CALLS / 20 && alone[k].copied > CALLS / 50);
+        HOLDS(alone[k].finished > CALLS / 10 && alone[k].stopped > CALLS / 20 && alone[k].refused > CALLS / 20 && alone[k].copied > CALLS / 50 &&
+              alone[k].reported > CALLS / 50);
         HOLDS(k == 0 || alone[k].sum != alone[k - 1].sum);
     }
     printf("%d threads with %d calls each\n", THREADS, CALLS);

@@ -177,7 +177,8 @@ tracks-calls (c ∷ cs) st b l x ag k =
     tracks-calls cs (storeCall st c .kept) (bookCall b c .kept) l (standsAfter l x c (storeCall st c .reply)) (h .agree)
     (rw (h .reply) (tracks-call b l x (ag .texts) k c))
 
-agree-after : (cs : List Call) (st : Store) (b : Book) → Agree st b → Agree (storeAfter st cs) (after bookCall b cs)
+-- they agree after any calls
+pub agree-after : (cs : List Call) (st : Store) (b : Book) → Agree st b → Agree (storeAfter st cs) (after bookCall b cs)
 unfolding after
 agree-after [] st b ag = ag
 agree-after (c ∷ cs) st b ag = agree-after cs (storeCall st c .kept) (bookCall b c .kept) (both-call st b c ag .agree)

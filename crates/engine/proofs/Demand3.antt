@@ -51,12 +51,16 @@ unfolding after
 ended s [] h = refl
 ended s (x ∷ ss) h = ended (x .store) ss (h .1) ∙ ap (λ z. Definitions.storeAfter (z .kept) (callsOf ss)) (h .0)
 
+pub ended-fresh : (s : Store) (ss : List Step) → stored s ≡ freshStore → Promised s ss
+    → stored (storeAfter s ss) ≡ Definitions.storeAfter freshStore (callsOf ss)
+ended-fresh s ss e h = ended s ss h ∙ ap (λ z. Definitions.storeAfter z (callsOf ss)) e
+
 module _ (s : Store) (ss : List Step) (x : Run) (y : Step) (f : Follows s ss x y) where
   replies : repliesOf ss ≡ storeAnswers freshStore (callsOf ss)
   replies = chained-fresh s ss (f .fresh) (f .session)
 
   final : stored (storeAfter s ss) ≡ Definitions.storeAfter freshStore (callsOf ss)
-  final = ended s ss (f .session) ∙ ap (λ z. Definitions.storeAfter z (callsOf ss)) (f .fresh)
+  final = ended-fresh s ss (f .fresh) (f .session)
 
   -- the answer is the definitions'
   same : y .reply ≡ runAfter (callsOf ss) x

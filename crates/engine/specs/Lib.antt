@@ -1,2 +1,3 @@
 pub mod Stored
 pub mod Demand3
+pub mod Reach

@@ -1,8 +1,9 @@
-// The engine: a store of texts under the letters a to z, with define, withdraw and run.
+// The engine: a store of texts under the letters a to z, with define, withdraw and run, and the report of what a letter can reach.
 ghost use mathlib.Core.Path.{_≡_};
 ghost use Rattle.book.specs.Calls.{defines, withdraws, running};
 ghost use Rattle.book.specs.Store.{freshStore, storeCall};
 ghost use Rattle.engine.specs.Stored.{stored, told, answered};
+ghost use Rattle.engine.specs.Reach.{Reported};
 use book::Report;
 use language::LETTERS;
 use language::STORE_CELLS;
@@ -98,5 +99,17 @@ impl Store {
         let mut store = self;
         store.vars = vars;
         Answer { store, report }
+    }
+    // Which letters the letter may call, through however many others, and which of those have no text.
+    pub fn reach(self, letter: u8, reached: &mut [u8; LETTERS], missing: &mut [u8; LETTERS]) -> Told
+        ensures { λ r. ⌜ Reported self letter (now (reached .entry)) (now (missing .entry)) r (now (reached .exit)) (now (missing .exit)) ⌝ }
+    {
+        let used = self.used;
+        let vars = self.vars;
+        let number = reach::reach(&self.cells, &used, &vars, letter, reached, missing);
+        Told {
+            store: self,
+            number,
+        }
     }
 }

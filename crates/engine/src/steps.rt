@@ -1,14 +1,16 @@
 // The tie between demand 3 and the contracts. Each function calls one function of `Store`, with any arguments, and its step is one that `Promised`
-// asks for: a contract of `Store` that promised less would not prove it. Nothing calls them.
+// asks for, or its report the one that `RunAndReport` asks for: a contract of `Store` that promised less would not prove it. Nothing calls them.
 ghost use mathlib.Core.Path.{_≡_};
 ghost use mathlib.Core.List.{[], _∷_};
 ghost use Rattle.book.specs.Calls.{defines, withdraws, running};
 ghost use Rattle.book.specs.Store.{freshStore};
+ghost use Rattle.reach.specs.Reach.{reports, reach};
 ghost use Rattle.engine.specs.Stored.{stored};
 ghost use Rattle.engine.specs.Demand3.{Promised, tellsOf, runOf};
 use super::Answer;
 use super::Store;
 use super::Told;
+use language::LETTERS;
 
 // What a session starts from.
 fn fresh() -> Store
@@ -44,4 +46,12 @@ fn run(
         (runOf (running letter allowance (now (inputs .entry)) (now (list .entry)) (now (output .entry))) r (now (list .exit)) (now (output .exit)) ∷ []) ⌝ }
 {
     s.run(letter, allowance, inputs, list, output)
+}
+
+// A report of the store that a session left, and the same store.
+fn reach(s: Store, letter: u8, reached: &mut [u8; LETTERS], missing: &mut [u8; LETTERS]) -> Told
+    ensures { λ r. ⌜ reports (r .number) (now (reached .exit)) (now (missing .exit))
+        ≡ reach (stored s) letter (now (reached .entry)) (now (missing .entry)) ⌝ }
+{
+    s.reach(letter, reached, missing)
 }

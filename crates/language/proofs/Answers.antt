@@ -1,5 +1,6 @@
 -- The numbers of refusals and endings: no ending refuses, and no refusal is 0.
 use mathlib.Core.Path.{_≡_, refl}
+use Prim.Native.Nat.{_≤_}
 use native.Mathlib.Omega.{arith}
 use mathlib.Core.Bool.{false}
 use Rattle.language.specs.declared.Refusal.{Refusal}
@@ -22,19 +23,23 @@ ending-no-refusal NoText = refl
 ending-no-refusal DeepCalls = refl
 ending-no-refusal Damaged = refl
 
+-- a refusal's number is 1 to 14
+pub refusal-bounds : (r : Refusal) → (1 ≤ refusalNumber r) × (refusalNumber r ≤ 14)
+refusal-bounds NoSuchLetter = (omega arith, omega arith)
+refusal-bounds LongText = (omega arith, omega arith)
+refusal-bounds StrayMark = (omega arith, omega arith)
+refusal-bounds Deep = (omega arith, omega arith)
+refusal-bounds BadCounter = (omega arith, omega arith)
+refusal-bounds BadConstant = (omega arith, omega arith)
+refusal-bounds Unfinished = (omega arith, omega arith)
+refusal-bounds TableFull = (omega arith, omega arith)
+refusal-bounds ManyCounters = (omega arith, omega arith)
+refusal-bounds NotStanding = (omega arith, omega arith)
+refusal-bounds BadInput = (omega arith, omega arith)
+refusal-bounds BadList = (omega arith, omega arith)
+refusal-bounds BadStore = (omega arith, omega arith)
+refusal-bounds BadLine = (omega arith, omega arith)
+
 -- no refusal's number is 0
 pub refusal-not-zero : (r : Refusal) → refusalNumber r ≡ 0 → ⊥
-refusal-not-zero NoSuchLetter e = omega arith
-refusal-not-zero LongText e = omega arith
-refusal-not-zero StrayMark e = omega arith
-refusal-not-zero Deep e = omega arith
-refusal-not-zero BadCounter e = omega arith
-refusal-not-zero BadConstant e = omega arith
-refusal-not-zero Unfinished e = omega arith
-refusal-not-zero TableFull e = omega arith
-refusal-not-zero ManyCounters e = omega arith
-refusal-not-zero NotStanding e = omega arith
-refusal-not-zero BadInput e = omega arith
-refusal-not-zero BadList e = omega arith
-refusal-not-zero BadStore e = omega arith
-refusal-not-zero BadLine e = omega arith
+refusal-not-zero r e = let b = refusal-bounds r .0 in omega (arith, b)

@@ -15,7 +15,7 @@ use Rattle.language.specs.Limits.{maxHeight, maxCalls, maxVariables}
 use Rattle.language.specs.Syntax.{Operator, absolute, discard, negate, copy, write, newline, input, add, subtract, multiply, divide, fetch, save}
 use Rattle.language.specs.Syntax.{negative, null, equal, Operation, operator, variable, constant, print, Predicate, condition, counter}
 use Rattle.language.specs.Syntax.{Expr, close, semi, colon, operate, test, call, inner}
-use Rattle.language.specs.Tokens.{ends, counts}
+use Rattle.language.specs.Tokens.{ends}
 use Rattle.language.specs.Between.{between}
 use Rattle.language.specs.Reading.{ending}
 use Rattle.language.specs.Effects.{State, Effect, goes, stops, Verdict, answers, stalls, needs, ranged, pushed, emitted, operated, perform, ask, countIndex, withTaken, top, column, onCall}
@@ -27,7 +27,7 @@ use Rattle.language.proofs.MeaningFollowing.{step, andThen, follow, fol
 -- ── one mark ────────────────────────────────────────────────────────────────────────────────────
 
 -- an ending that is neither damage nor the call of a letter without a text: 20 to 28, and not 27
-abbrev Common : Ending → Bool
+abbrev pub Common : Ending → Bool
 Common e = cond (eqb (endingNumber e) 27) false (between 20 28 (endingNumber e))
 
 -- an operation is stopped by such an ending, if at all

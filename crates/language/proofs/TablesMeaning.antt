@@ -81,7 +81,7 @@ layout-decodes t w e =
     record { least = used-least w; most = u; whole = length-layout w u; first = refl; decodes = d .0; ends = d .1; zeros = formed-zeros w g }
 
 -- what the simulation asks of a letter
-stored-stands : (texts : ℕ → Option Expr) (c : List ℤ) (u : List ℕ) (a : ℕ) (x : Option Expr) → Holds (tableAt c u a) x
+pub stored-stands : (texts : ℕ → Option Expr) (c : List ℤ) (u : List ℕ) (a : ℕ) (x : Option Expr) → Holds (tableAt c u a) x
     → Stands texts (decodeAt c u) (standsAt u) a x
 stored-stands texts c u a none h = ap (λ n. not (eqb n 0)) h
 stored-stands texts c u a (some w) h =

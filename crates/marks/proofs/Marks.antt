@@ -6,13 +6,13 @@ use Prim.Native.Nat.{ℕ, zero, suc, _+_, _-_, _≤_, _<_}
 use native.Mathlib.Omega.{arith}
 use lib.IntN.{ℤ, pos, negsuc}
 use lib.Dec.{eqb, ltb}
-use borrow.Author.Tests.{eqb-true, eqb-false, lt-leb}
+use borrow.Author.Tests.{eqb-true, eqb-false}
 use Rattle.language.specs.declared.Table.{Table}
 use Rattle.language.specs.Limits.{maxCells, maxLetters, maxCounters}
 use Rattle.language.specs.Letters.{firstLetter, lastLetter, isLetter, letterIndex}
 use Rattle.language.specs.Layout.{codeStart}
 use Rattle.language.specs.Lookup.{lookup}
-use Rattle.language.specs.Syntax.{constantCode, Operation, operator, variable, constant, print, Predicate, condition, counter}
+use Rattle.language.specs.Syntax.{constantCode, Operation, operator, print, Predicate, counter}
 use Rattle.language.specs.Values.{isValue}
 use Rattle.language.specs.Machine.{Instruction, transfer, fail, operateAt, testAt, callAt, Decoded, last, damaged, code, cell}
 use Rattle.language.specs.Machine.{Kind, isConstant, isPrint, isCounter, isNone, isOperator, isVariable, isCondition, isCall, kinds, kind, mark, sound, natural, exactly, decode}

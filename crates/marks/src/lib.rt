@@ -4,7 +4,6 @@ ghost use Rattle.language.specs.Tables.{tableFrom};
 ghost use Rattle.operands.specs.Ready.{Inside};
 ghost use mathlib.Core.List.{[]};
 ghost use Rattle.language.specs.Machine.{isConstant, isCounter, isPrint, mark, decode};
-ghost use Rattle.operands.specs.Operands.{byteAt};
 ghost use Rattle.marks.specs.Formats.{formatOf, endOf, calledAs, ticked, Row, Standing, Reads, Formatted};
 use language::CONSTANT_CODE;
 use language::LETTERS;
@@ -65,7 +64,7 @@ fn value_end(cells: &[i32; STORE_CELLS], base: usize, end: usize, at: usize) -> 
         return 0;
     }
     if is_value(cells[base + at]) {
-        at + 2
+        at + 2 // code and value
     } else {
         0
     }
@@ -88,7 +87,7 @@ fn counter_end(cells: &[i32; STORE_CELLS], base: usize, end: usize, at: usize) -
     if target(cells[base + at + 2], end) == 0 {
         return 0;
     }
-    at + 4
+    at + 4 // code, number, order and false
 }
 
 // The cell after a print, or 0.
@@ -136,7 +135,7 @@ fn next_cell(cells: &[i32; STORE_CELLS], base: usize, end: usize, at: usize, f: 
             if target(cells[base + at - 1], end) == 0 {
                 return 0;
             }
-            at + 1
+            at + 1 // one cell
         }
         Format::NoCode => 0,
     }

@@ -4,14 +4,13 @@ use mathlib.Core.Bool.{Bool, true, false, cond, not, _&&_, _||_}
 use mathlib.Core.List.{List, [], _∷_}
 use Prim.Native.Nat.{ℕ, zero, suc, _+_, _*_, _-_, _≤_, _<_}
 use native.Mathlib.Omega.{arith}
-use lib.IntN.{ℤ}
 use lib.ListN.{length, getD, set, replicate, length-set, length-replicate}
 use lib.Seq.{ext-getD, getD-set-same, getD-set-other}
 use lib.Dec.{eqb, ltb}
 use borrow.Author.Tests.{eq-eqb, eqb-true, eqb-false, lt-ltb, le-ltb, ltb-true, ltb-false}
 use Rattle.language.proofs.Tests.{by-ltb}
 use Rattle.language.specs.Limits.{maxLetters, maxCells}
-use Rattle.language.specs.Tables.{standsAt, soundUsed}
+use Rattle.language.specs.Tables.{soundUsed}
 use Rattle.language.proofs.EffectsLent.{replicate-at}
 use Rattle.book.specs.Store.{Store, entryAt}
 use Rattle.marks.specs.Marks.{marks, callsIn}
@@ -19,7 +18,7 @@ use Rattle.marks.specs.Formats.{callPlaces, ticked}
 use Rattle.marks.proofs.Marks.{Letters, marks-letters}
 use Rattle.reach.specs.Reach.{calledBy, member, calls, marksBy, isMarked, anyOf, spread, spreadBy}
 use Rattle.reach.specs.Rounds.{rows, inArray, Marks}
-use Rattle.reach.proofs.Marks.{mark, length-marks, getD-marks, marks-same, marks-of}
+use Rattle.reach.proofs.Marks.{mark, mark-back, length-marks, getD-marks, marks-same, marks-of}
 use Rattle.reach.proofs.Rounds.{count-bounds, sound-at}
 
 -- ── ticks ───────────────────────────────────────────────────────────────────────────────────────
@@ -106,11 +105,7 @@ module _ (st : Store) (sound : soundUsed (st .used) ≡ true) where
   -- the whole array
   pub array-calls : (a b : ℕ) → a < maxLetters → b < maxLetters → inArray (rows st maxLetters) a b ≡ calls st a b
   array-calls a b i j =
-      ap (λ x. eqb x 1) (rows-at maxLetters a b (omega arith) i j ∙ ap (λ u. cond u (mark (calls st a b)) 0) (lt-ltb a maxLetters i)) ∙ back (calls st a b)
-    where
-      back : (u : Bool) → eqb (mark u) 1 ≡ u
-      back true = refl
-      back false = refl
+      ap (λ x. eqb x 1) (rows-at maxLetters a b (omega arith) i j ∙ ap (λ u. cond u (mark (calls st a b)) 0) (lt-ltb a maxLetters i)) ∙ mark-back (calls st a b)
 
 -- ── the same calls ──────────────────────────────────────────────────────────────────────────────
 

@@ -2,3 +2,7 @@ pub mod Marks
 pub mod Rounds
 pub mod Calls
 pub mod Answers
+pub mod Closure
+pub mod Texts
+pub mod Claims
+pub mod Examples

@@ -1,14 +1,14 @@
 -- Laws of lists of marks.
 use mathlib.Core.Path.{_≡_, refl, sym, ap, _∙_, subst}
-use mathlib.Core.Bool.{Bool, true, false, cond, not, _&&_, _||_, false≢true}
-use mathlib.Core.List.{List, [], _∷_}
-use Prim.Native.Nat.{ℕ, zero, suc, _+_, _*_, _-_, _≤_, _<_}
+use mathlib.Core.Bool.{Bool, true, false, cond, not, false≢true}
+use mathlib.Core.List.{List}
+use Prim.Native.Nat.{ℕ, zero, suc, _+_, _-_, _≤_, _<_}
 use native.Mathlib.Omega.{arith}
 use native.Mathlib.Nat.{le-of-suc-le-suc}
-use lib.ListN.{length, getD, set, replicate, length-set}
+use lib.ListN.{length, getD, set, length-set}
 use lib.Seq.{ext-getD, getD-set-same, getD-set-other}
 use lib.Dec.{eqb, ltb}
-use borrow.Author.Tests.{eq-eqb, ne-eqb, eqb-true, eqb-false, lt-ltb, le-ltb, ltb-true, ltb-false}
+use borrow.Author.Tests.{eqb-true, eqb-false, ltb-true, ltb-false}
 use Rattle.language.specs.Limits.{maxLetters}
 use Rattle.reach.specs.Reach.{marksBy, isMarked}
 use Rattle.reach.specs.Rounds.{Marks}
@@ -17,7 +17,8 @@ use Rattle.reach.specs.Rounds.{Marks}
 abbrev pub mark : Bool → ℕ
 mark u = cond u 1 0
 
-mark-back : (u : Bool) → eqb (mark u) 1 ≡ u
+-- and back
+pub mark-back : (u : Bool) → eqb (mark u) 1 ≡ u
 mark-back true = refl
 mark-back false = refl
 

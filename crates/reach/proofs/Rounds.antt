@@ -5,16 +5,16 @@ use mathlib.Core.List.{List, [], _∷_}
 use Prim.Native.Nat.{ℕ, zero, suc, _+_, _*_, _-_, _≤_, _<_}
 use native.Mathlib.Omega.{arith}
 use native.Mathlib.Numerals.{add-one}
-use lib.ListN.{length, getD}
-use lib.Dec.{eqb, ltb}
-use borrow.Author.Tests.{eq-eqb, ne-eqb, eqb-true, eqb-false, ltb-true, ltb-false}
+use lib.ListN.{getD}
+use lib.Dec.{eqb}
+use borrow.Author.Tests.{ne-eqb, eqb-true, eqb-false}
 use Rattle.language.specs.Limits.{maxLetters, maxCells}
 use Rattle.language.specs.Tables.{soundCount, soundUsed}
 use Rattle.language.proofs.Between.{between-bounds}
 use Rattle.language.proofs.Tests.{both-true, first-true, second-true}
 use Rattle.book.specs.Store.{Store}
 use Rattle.marks.specs.Formats.{ticked}
-use Rattle.reach.specs.Reach.{calledBy, marksBy, isMarked, anyOf, eachOf, spread, spreadBy, readable}
+use Rattle.reach.specs.Reach.{calledBy, marksBy, isMarked, anyOf, eachOf, spread, spreadBy, mostCalls, readable}
 use Rattle.reach.specs.Rounds.{rows, inArray, Marks, withRow, ReadsAll}
 use Rattle.reach.proofs.Marks.{marked-by, marks-same, marks-of}
 
@@ -54,6 +54,11 @@ each-at n a p h e = go (p a) refl
     go true q = refl
     go false q = absurd (false≢true (sym (each-fails n a p h q) ∙ e))
 
+-- and the other way round
+pub each-all : (n : ℕ) (p : ℕ → Bool) → ((a : ℕ) → p a ≡ true) → eachOf n p ≡ true
+each-all zero p h = refl
+each-all (suc n) p h = both-true (eachOf n p) (p n) (each-all n p h) (h n)
+
 -- the letters before a are read, and undamaged
 pub record Gathering (st : Store) (u c : List ℕ) (a : ℕ) : Type 0 where
   pub counts : soundUsed u ≡ true
@@ -83,9 +88,14 @@ module _ (st : Store) (u c : List ℕ) (a : ℕ) (g : Gathering st u c a) where
 
 -- ── a round ─────────────────────────────────────────────────────────────────────────────────────
 
+-- tests joined
 or-false : (u : Bool) → u ≡ (u || false)
 or-false true = refl
 or-false false = refl
+
+pub or-true : (u : Bool) → (u || true) ≡ true
+or-true true = refl
+or-true false = refl
 
 or-assoc : (u v w : Bool) → ((u || v) || w) ≡ (u || (v || w))
 or-assoc true v w = refl
@@ -139,26 +149,26 @@ rounds-still f n (suc k) m e h = go (eqb (suc k) n) refl (λ j. rounds-still f n
 -- n rounds are done
 pub record Following (f : ℕ → ℕ → Bool) (start m : List ℕ) (n : ℕ) : Type 0 where
   pub proper : Marks start
-  pub few : n ≤ maxLetters - 1
+  pub few : n ≤ mostCalls
   pub reached : m ≡ spreadBy f n start
 
 module _ (f : ℕ → ℕ → Bool) (start m : List ℕ) (n : ℕ) (g : Following f start m n) where
   pub following-marks : Marks m
   following-marks = subst Marks (sym (g .reached)) (rounds-marks f n start (g .proper))
 
-  pub following-more : (next : List ℕ) → n < maxLetters - 1 → next ≡ spread f m → Following f start next (n + 1)
+  pub following-more : (next : List ℕ) → n < mostCalls → next ≡ spread f m → Following f start next (n + 1)
   unfolding spreadBy
   following-more next h e =
       subst (Following f start next) (sym (add-one n))
       (record { proper = g .proper; few = omega arith; reached = e ∙ ap (spread f) (g .reached) })
 
-  pub following-still : (next : List ℕ) → next ≡ spread f m → m ≡ next → m ≡ spreadBy f (maxLetters - 1) start
+  pub following-still : (next : List ℕ) → next ≡ spread f m → m ≡ next → m ≡ spreadBy f (mostCalls) start
   following-still next e s =
       g .reached
-      ∙ sym (rounds-still f n (maxLetters - 1) start (ap (spread f) (sym (g .reached)) ∙ sym e ∙ sym s ∙ g .reached) (g .few))
+      ∙ sym (rounds-still f n (mostCalls) start (ap (spread f) (sym (g .reached)) ∙ sym e ∙ sym s ∙ g .reached) (g .few))
 
-  pub following-done : maxLetters - 1 ≤ n → m ≡ spreadBy f (maxLetters - 1) start
-  following-done h = g .reached ∙ ap (λ k. spreadBy f k start) (let k = g .few in let z : n ≡ maxLetters - 1 = omega arith in z)
+  pub following-done : mostCalls ≤ n → m ≡ spreadBy f (mostCalls) start
+  following-done h = g .reached ∙ ap (λ k. spreadBy f k start) (let k = g .few in let z : n ≡ mostCalls = omega arith in z)
 
 -- ── a round so far ──────────────────────────────────────────────────────────────────────────────
 

@@ -41,12 +41,12 @@ fn read_all(cells: &[i32; STORE_CELLS], used: &[usize; LETTERS], calls: &mut [u8
     requires { ⌜ Clear (now used) (now calls) ⌝ }
     ensures { λ r. ⌜ ReadsAll (tables (now (cells .entry)) (now (used .entry))) r (now (calls .exit)) ⌝ }
 {
-    let mut a: usize = 0;
-    while a < LETTERS {
-        if !read_one(cells, used, a, calls) {
-            return false;
+    let mut letter: usize = 0;
+    while letter < LETTERS {
+        if !read_one(cells, used, letter, calls) {
+            return false; // damage
         }
-        a += 1;
+        letter += 1;
     }
     true
 }

@@ -1,4 +1,5 @@
-use mathlib.Core.Path.{_≡_, refl, sym, ap, _∙_}
+-- `marks::counter_end` meets its contract.
+use mathlib.Core.Path.{_≡_, sym, ap, _∙_}
 use Prim.Native.Nat.{ℕ, suc, _+_, _≤_, _<_}
 use native.Mathlib.Omega.{arith}
 use lib.IntN.{ℤ, pos}
@@ -6,6 +7,7 @@ use lib.ListN.{getD}
 use mir.Syntax.{w32}
 use mir.Val.{toZ, ofZ}
 use denote.Ref.{now}
+use borrow.Author.Needs.{needs}
 use Rattle.language.specs.declared.Table.{Table}
 use Rattle.language.specs.Limits.{maxCells}
 use Rattle.language.specs.Machine.{cell}
@@ -14,14 +16,8 @@ use Rattle.operands.specs.Operands.{limitOf, orderOf, targetOf}
 use Rattle.operands.proofs.Tables.{cell-at}
 use Rattle.operands.proofs.OperandsDecoding.{count-read, counter-short, counter-number, counter-order, counter-false, counter-good}
 use Rattle.marks.specs.Formats.{endOf}
-use borrow.Author.Needs.{needs}
 use Rattle.marks.proofs.counter_end.Statement.{statement}
 use Rattle.marks.proofs.counter_end.Tie as tie
-use Rattle.marks.proofs.counter_end.Reads as reads
-use Rattle.marks.proofs.counter_end.Lts as lts
-use Rattle.operands.proofs.cells.bounded.Reads as bounded-reads
-use Rattle.operands.proofs.cells.negated.Reads as negated-reads
-use Rattle.operands.proofs.cells.target.Reads as target-reads
 
 module _ (s : tie.Start) where
   abbrev tab : Table
@@ -58,89 +54,20 @@ exits c =
     ap (λ (z : ℤ). targetOf z (tab s .used)) (read s (suc (suc (suc (Q s)))) i (omega arith) (omega arith) (omega arith) ∙ sym b)
     ∙ sym (c .target .ensures)
 
--- src/lib.rt:76:14
-add-if1 : tie.Need-add-if1
-add-if1 c = search needs
-
--- src/lib.rt:77:9
 returns : tie.Need-returns
 returns c = sym (ap (λ d. endOf d (Q (c .before))) (count-read _ _ ∙ counter-short _ _ _ _ _ (c .if1 .taken)))
 
--- src/lib.rt:79:22
-add-negated : tie.Need-add-negated
-add-negated c = search needs
-
--- src/lib.rt:79:16
-mul-negated : tie.Need-mul-negated
-mul-negated c = search needs
-
--- src/lib.rt:79:16
-element-copy-out-negated : tie.Need-element-copy-out-negated
-element-copy-out-negated c = search needs
-
--- src/lib.rt:79:8
-negated-requires : tie.Need-negated-requires
-negated-requires c κs = search needs
-
--- src/lib.rt:80:9
 returns-2 : tie.Need-returns-2
 returns-2 c = sym (ap (λ d. endOf d (Q (c .before .before .before .before))) (count-read _ _ ∙ counter-number _ _ _ _ _ (c .before .before .before .if1 .left) (limits (c .before) ∙ c .if2 .taken)))
 
--- src/lib.rt:82:22
-add-bounded : tie.Need-add-bounded
-add-bounded c = search needs
-
--- src/lib.rt:82:22
-add-bounded-2 : tie.Need-add-bounded-2
-add-bounded-2 c = search needs
-
--- src/lib.rt:82:16
-mul-bounded : tie.Need-mul-bounded
-mul-bounded c = search needs
-
--- src/lib.rt:82:16
-element-copy-out-bounded : tie.Need-element-copy-out-bounded
-element-copy-out-bounded c = search needs
-
--- src/lib.rt:82:8
-bounded-requires : tie.Need-bounded-requires
-bounded-requires c κs = search needs
-
--- src/lib.rt:83:9
 returns-3 : tie.Need-returns-3
 returns-3 c = sym (ap (λ d. endOf d (Q (c .before .before .before .before .before .before .before))) (count-read _ _ ∙ counter-order _ _ _ _ _ (c .before .before .before .before .before .before .if1 .left)
     (λ z. c .before .before .before .if2 .left (sym (limits (c .before .before .before .before)) ∙ z)) (orders (c .before) ∙ c .if3 .taken)))
 
--- src/lib.rt:85:21
-add-target : tie.Need-add-target
-add-target c = search needs
-
--- src/lib.rt:85:21
-add-target-2 : tie.Need-add-target-2
-add-target-2 c = search needs
-
--- src/lib.rt:85:15
-mul-target : tie.Need-mul-target
-mul-target c = search needs
-
--- src/lib.rt:85:15
-element-copy-out-target : tie.Need-element-copy-out-target
-element-copy-out-target c = search needs
-
--- src/lib.rt:85:8
-target-requires : tie.Need-target-requires
-target-requires c κs = search needs
-
--- src/lib.rt:86:9
 returns-4 : tie.Need-returns-4
 returns-4 c = sym (ap (λ d. endOf d (Q (c .before .before .before .before .before .before .before .before .before .before))) (count-read _ _ ∙ counter-false _ _ _ _ _ (c .before .before .before .before .before .before .before .before .before .if1 .left)
     (λ z. c .before .before .before .before .before .before .if2 .left (sym (limits (c .before .before .before .before .before .before .before)) ∙ z)) (λ z. c .before .before .before .if3 .left (sym (orders (c .before .before .before .before)) ∙ z)) (exits (c .before) ∙ c .if4 .taken)))
 
--- src/lib.rt:88:5
-add-result : tie.Need-add-result
-add-result c = search needs
-
--- src/lib.rt:72:1
 returns-5 : tie.Need-returns-5
 returns-5 c = sym (ap (λ d. endOf d (Q (c .before .before .before .before .before .before .before .before .before .before))) (count-read _ _ ∙ counter-good _ _ _ _ _ (c .before .before .before .before .before .before .before .before .before .if1 .left)
     (λ z. c .before .before .before .before .before .before .if2 .left (sym (limits (c .before .before .before .before .before .before .before)) ∙ z)) (λ z. c .before .before .before .if3 .left (sym (orders (c .before .before .before .before)) ∙ z))
@@ -148,26 +75,6 @@ returns-5 c = sym (ap (λ d. endOf d (Q (c .before .before .before .before .befo
 
 pub counter-end-spec : {M : Type 1} → statement M
 counter-end-spec =
-    tie.close
-    (tie.spec
-    add-if1
-    returns
-    add-negated
-    mul-negated
-    element-copy-out-negated
-    negated-requires
-    returns-2
-    add-bounded
-    add-bounded-2
-    mul-bounded
-    element-copy-out-bounded
-    bounded-requires
-    returns-3
-    add-target
-    add-target-2
-    mul-target
-    element-copy-out-target
-    target-requires
-    returns-4
-    add-result
-    returns-5)
+    tie.close (tie.spec (λ c. search needs) returns (λ c. search needs) (λ c. search needs) (λ c. search needs) (λ c κs. search needs) returns-2
+    (λ c. search needs) (λ c. search needs) (λ c. search needs) (λ c. search needs) (λ c κs. search needs) returns-3 (λ c. search needs)
+    (λ c. search needs) (λ c. search needs) (λ c. search needs) (λ c κs. search needs) returns-4 (λ c. search needs) returns-5)

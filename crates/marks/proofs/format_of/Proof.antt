@@ -1,3 +1,4 @@
+-- `marks::format_of` meets its contract.
 use mathlib.Core.Path.{_≡_, refl, sym, ap, _∙_}
 use mathlib.Core.Bool.{Bool, cond}
 use mathlib.Core.List.{List, [], _∷_}
@@ -14,8 +15,6 @@ use Rattle.marks.specs.declared.Format.the-variants.{Bare, Digit, Value,
 use Rattle.marks.specs.Formats.{formatOf}
 use Rattle.marks.proofs.format_of.Statement.{statement}
 use Rattle.marks.proofs.format_of.Tie as tie
-use Rattle.marks.proofs.format_of.Reads as reads
-use Rattle.marks.proofs.format_of.Lts as lts
 
 -- the place of a format among all, and the format at a place
 abbrev rank : Format → ℕ
@@ -85,91 +84,63 @@ in-gap c f lo n t h k =
     (r .0 .1))
     (r .1))
 
--- src/lib.rt:44:1
 returns : tie.Need-returns
 unfolding formatOf
 returns c = at-keys Digit (70 ∷ 83 ∷ []) tt (c .before .args .b) (c .match .keys2)
 
--- src/lib.rt:44:1
 returns-2 : tie.Need-returns-2
 unfolding formatOf
 returns-2 c = at-keys Value (175 ∷ []) tt (c .before .args .b) (c .match .keys3)
 
--- src/lib.rt:44:1
 returns-3 : tie.Need-returns-3
 unfolding formatOf
 returns-3 c = at-keys Counter (36 ∷ []) tt (c .before .args .b) (c .match .keys5)
 
--- src/lib.rt:44:1
 returns-4 : tie.Need-returns-4
 unfolding formatOf
 returns-4 c = at-keys Bytes (167 ∷ []) tt (c .before .args .b) (c .match .keys6)
 
--- src/lib.rt:44:1
 returns-5 : tie.Need-returns-5
 unfolding formatOf
 returns-5 c = at-keys Transfer (255 ∷ []) tt (c .before .args .b) (c .match .keys7)
 
--- src/lib.rt:44:1
 returns-6 : tie.Need-returns-6
 unfolding formatOf
 returns-6 c = in-gap (c .before) NoCode 0 42 tt (omega arith) (omega arith)
 
--- src/lib.rt:44:1
 returns-7 : tie.Need-returns-7
 unfolding formatOf
 returns-7 c = in-gap (c .before .before .before) NoCode 44 32 tt (omega arith) (omega arith)
 
--- src/lib.rt:44:1
 returns-8 : tie.Need-returns-8
 unfolding formatOf
 returns-8 c = in-gap (c .before .before .before .before .before) NoCode 81 16 tt (omega arith) (omega arith)
 
--- src/lib.rt:44:1
 returns-9 : tie.Need-returns-9
 unfolding formatOf
 returns-9 c = in-gap (c .before .before .before .before .before .before) NoCode 123 133 tt (omega arith) (omega arith)
 
--- src/lib.rt:44:1
 returns-10 : tie.Need-returns-10
 unfolding formatOf
 returns-10 c = at-keys Exit (48 ∷ 74 ∷ 78 ∷ []) tt (c .before .args .b) (c .match .keys4)
 
--- src/lib.rt:44:1
 returns-11 : tie.Need-returns-11
 unfolding formatOf
 returns-11 c = in-gap (c .before .before .before .before .before .before) Exit firstLetter maxLetters tt (omega arith) (omega arith)
 
--- src/lib.rt:44:1
 returns-12 : tie.Need-returns-12
 unfolding formatOf
 returns-12 c = at-keys Bare (45 ∷ 47 ∷ 65 ∷ 73 ∷ 88 ∷ []) tt (c .before .args .b) (c .match .keys1)
 
--- src/lib.rt:44:1
 returns-13 : tie.Need-returns-13
 unfolding formatOf
 returns-13 c = in-gap (c .before .before) Bare 42 2 tt (omega arith) (omega arith)
 
--- src/lib.rt:44:1
 returns-14 : tie.Need-returns-14
 unfolding formatOf
 returns-14 c = in-gap (c .before .before .before .before) Bare 76 5 tt (omega arith) (omega arith)
 
 pub format-of-spec : {M : Type 1} → statement M
 format-of-spec =
-    tie.close
-    (tie.spec
-    returns
-    returns-2
-    returns-3
-    returns-4
-    returns-5
-    returns-6
-    returns-7
-    returns-8
-    returns-9
-    returns-10
-    returns-11
-    returns-12
-    returns-13
-    returns-14)
+    tie.close (tie.spec returns returns-2 returns-3 returns-4 returns-5 returns-6 returns-7 returns-8 returns-9 returns-10 returns-11 returns-12
+    returns-13 returns-14)

@@ -1,3 +1,4 @@
+-- `marks::print_end` meets its contract.
 use mathlib.Core.Path.{_≡_, refl, sym, ap, _∙_}
 use Prim.Native.Nat.{ℕ, suc, _+_, _≤_}
 use native.Mathlib.Omega.{arith}
@@ -6,6 +7,7 @@ use lib.ListN.{getD}
 use mir.Syntax.{w32}
 use mir.Val.{toZ, ofZ}
 use denote.Ref.{now}
+use borrow.Author.Needs.{needs}
 use Rattle.language.specs.declared.Table.{Table}
 use Rattle.language.specs.Limits.{maxCells}
 use Rattle.language.specs.Machine.{mark, isPrint}
@@ -15,13 +17,8 @@ use Rattle.operands.proofs.Operands.{bounded-le}
 use Rattle.operands.proofs.Tables.{cell-next}
 use Rattle.operands.proofs.OperandsDecoding.{print-read, print-short, print-long, print-broken, print-good}
 use Rattle.marks.specs.Formats.{endOf}
-use borrow.Author.Needs.{needs}
 use Rattle.marks.proofs.print_end.Statement.{statement}
 use Rattle.marks.proofs.print_end.Tie as tie
-use Rattle.marks.proofs.print_end.Reads as reads
-use Rattle.marks.proofs.print_end.Lts as lts
-use Rattle.operands.proofs.cells.bounded.Reads as bounded-reads
-use Rattle.operands.proofs.cells.prints.Reads as prints-reads
 
 module _ (s : tie.Start) where
   abbrev tab : Table
@@ -48,92 +45,23 @@ module _ (c : tie.After-bounded) where
   small : c .bounded .result ≤ suc maxCells
   small = rw (c .bounded .ensures) (bounded-le maxCells (suc maxCells) _ (omega arith))
 
--- src/lib.rt:96:14
-add-if1 : tie.Need-add-if1
-add-if1 c = search needs
-
--- src/lib.rt:97:9
 returns : tie.Need-returns
 returns c = sym (ap (λ d. endOf d (c .before .args .at)) (print-read _ _ _ _ (from (c .before)) refl (c .before .pre .used) ∙ print-short _ _ _ _ _ (c .if1 .taken)))
 
--- src/lib.rt:99:27
-add-bounded : tie.Need-add-bounded
-add-bounded c = search needs
-
--- src/lib.rt:99:21
-mul-bounded : tie.Need-mul-bounded
-mul-bounded c = search needs
-
--- src/lib.rt:99:21
-element-copy-out-bounded : tie.Need-element-copy-out-bounded
-element-copy-out-bounded c = search needs
-
--- src/lib.rt:99:53
-add-bounded-2 : tie.Need-add-bounded-2
-add-bounded-2 c = search needs
-
--- src/lib.rt:99:9
-bounded-requires : tie.Need-bounded-requires
-bounded-requires c κs = search needs
-
--- src/lib.rt:100:14
-add-if2 : tie.Need-add-if2
-add-if2 c = search needs
-
--- src/lib.rt:100:14
 add-if2-2 : tie.Need-add-if2-2
 add-if2-2 c = omega (arith, small c)
 
--- src/lib.rt:101:9
 returns-2 : tie.Need-returns-2
 returns-2 c = sym (ap (λ d. endOf d (c .before .before .before .before .args .at)) (reading (c .before) ∙ print-long _ _ _ _ _ (c .before .before .before .if1 .left) (c .if2 .taken)))
 
--- src/lib.rt:103:22
-add-prints : tie.Need-add-prints
-add-prints c = search needs
-
--- src/lib.rt:103:22
-add-prints-2 : tie.Need-add-prints-2
-add-prints-2 c = search needs
-
--- src/lib.rt:103:8
-prints-requires : tie.Need-prints-requires
-prints-requires c κs = search needs
-
--- src/lib.rt:103:42
-add-result : tie.Need-add-result
-add-result c = search needs
-
--- src/lib.rt:103:42
-add-result-2 : tie.Need-add-result-2
-add-result-2 c = search needs
-
--- src/lib.rt:92:1
 returns-3 : tie.Need-returns-3
 returns-3 c = sym (ap (λ d. endOf d (c .before .before .before .before .before .before .args .at)) (reading (c .before .before .before) ∙ print-good _ _ _ _ _ (c .before .before .before .before .before .if1 .left) (c .before .before .if2 .left) (sym (c .before .prints .ensures) ∙ c .if3 .taken)))
 
--- src/lib.rt:92:1
 returns-4 : tie.Need-returns-4
 returns-4 c = sym (ap (λ d. endOf d (c .before .before .before .before .before .before .args .at)) (reading (c .before .before .before) ∙ print-broken _ _ _ _ _ (c .before .before .before .before .before .if1 .left) (c .before .before .if2 .left) (sym (c .before .prints .ensures) ∙ c .if3 .left)))
 
 pub print-end-spec : {M : Type 1} → statement M
 print-end-spec =
-    tie.close
-    (tie.spec
-    add-if1
-    returns
-    add-bounded
-    mul-bounded
-    element-copy-out-bounded
-    add-bounded-2
-    bounded-requires
-    add-if2
-    add-if2-2
-    returns-2
-    add-prints
-    add-prints-2
-    prints-requires
-    add-result
-    add-result-2
-    returns-3
-    returns-4)
+    tie.close (tie.spec (λ c. search needs) returns (λ c. search needs) (λ c. search needs) (λ c. search needs) (λ c. search needs)
+    (λ c κs. search needs) (λ c. search needs) add-if2-2 returns-2 (λ c. search needs) (λ c. search needs) (λ c κs. search needs)
+    (λ c. search needs) (λ c. search needs) returns-3 returns-4)

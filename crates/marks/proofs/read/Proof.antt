@@ -1,5 +1,7 @@
-use mathlib.Core.Path.{_≡_, refl, sym, ap, _∙_}
-use Prim.Native.Nat.{ℕ, suc, _+_, _-_, _≤_, _<_}
+-- `marks::read` meets its contract.
+use mathlib.Core.Path.{_≡_, sym, ap, _∙_}
+use mathlib.Core.List.{[]}
+use Prim.Native.Nat.{ℕ, suc, _+_, _-_}
 use native.Mathlib.Omega.{arith}
 use lib.IntN.{ℤ, pos}
 use lib.ListN.{getD}
@@ -8,22 +10,13 @@ use mir.Val.{toZ, ofZ}
 use denote.Ref.{now}
 use borrow.Author.Needs.{needs}
 use Rattle.language.specs.declared.Table.{Table}
-use Rattle.language.specs.Limits.{maxCells}
 use Rattle.language.specs.Machine.{cell}
 use Rattle.language.specs.Tables.{tableFrom}
-use Rattle.operands.specs.Ready.{Inside}
 use Rattle.operands.proofs.Tables.{cell-at, cell-next}
-use mathlib.Core.List.{[]}
 use Rattle.marks.specs.Formats.{formatOf, calledAs, ticked}
 use Rattle.marks.proofs.Marks.{byte-le, Reading, reading-none, reading-broken, reading-further, reading-more, reading-unclosed, reading-unended, reading-done}
 use Rattle.marks.proofs.read.Statement.{statement}
 use Rattle.marks.proofs.read.Tie as tie
-use Rattle.marks.proofs.read.Reads as reads
-use Rattle.marks.proofs.read.Lts as lts
-use Rattle.marks.proofs.format_of.Reads as format-of-reads
-use Rattle.marks.proofs.next_cell.Reads as next-cell-reads
-use Rattle.marks.proofs.tick.Reads as tick-reads
-use Rattle.operands.proofs.cells.byte_at.Reads as byte-at-reads
 
 abbrev Inv-loop : tie.InvT-loop
 Inv-loop cells base end calls₀ from at₀ calls at = Reading (tableFrom cells base end) from calls₀ calls at
@@ -68,117 +61,75 @@ is-one c k =
     let b : toZ w32 (ofZ w32 e) ≡ e = search needs in
     sym b ∙ ap (toZ w32) k
 
--- src/lib.rt:171:5
 loop-holds : tie.Need-loop-holds Inv-loop μ-loop
 loop-holds c = reading-none _ _ _ (c .pre .low)
 
--- src/lib.rt:171:11
 add-loop : tie.Need-add-loop Inv-loop μ-loop
 add-loop c = omega (arith, c .loop .inv .high, c .before .pre .high)
 
--- src/lib.rt:172:17
 byte-at-requires : tie.Need-byte-at-requires Inv-loop μ-loop
 byte-at-requires c κs = record { cells = c .before .before .pre .cells; used = c .before .before .pre .high }
 
--- src/lib.rt:172:17
 cast-b : tie.Need-cast-b Inv-loop μ-loop
 cast-b c = omega (arith, c .byte-at .ensures, byte-le (tab (c .before .before .before)) (c .before .before .loop .at))
 
--- src/lib.rt:173:52
 format-of-requires : tie.Need-format-of-requires Inv-loop μ-loop
 format-of-requires c κs = tt
 
--- src/lib.rt:173:13
 next-cell-requires : tie.Need-next-cell-requires Inv-loop μ-loop
 next-cell-requires c κs = record {
   inside = record { cells = c .before .before .before .before .pre .cells; used = c .before .before .before .before .pre .high; first = c .before .before .before .loop .inv .low; early = omega arith };
   format = c .format-of .ensures ∙ ap formatOf (c .before .byte-at .ensures);
 }
 
--- src/lib.rt:175:13
 returns : tie.Need-returns Inv-loop μ-loop
 returns c = reading-broken (now (c .before .before .before .before .before .before .args .cells)) (c .before .before .before .before .before .before .args .base) (c .before .before .before .before .before .before .args .end) (c .before .before .before .before .before .before .pre .high) _ _ _ (c .before .before .before .before .before .loop .at) (c .before .before .before .before .before .loop .inv) (omega arith) _ (c .before .next-cell .ensures) (c .if1 .taken)
 
--- src/lib.rt:177:9
 tick-requires : tie.Need-tick-requires Inv-loop μ-loop
 tick-requires c κs = c .before .before .before .before .before .before .before .pre .row
 
--- src/lib.rt:171:5
 loop-less : tie.Need-loop-less Inv-loop μ-loop
 loop-less c = let h = reading-further (now (c .before .before .before .before .before .before .before .before .args .cells)) (c .before .before .before .before .before .before .before .before .args .base) (c .before .before .before .before .before .before .before .before .args .end) (c .before .before .before .before .before .before .before .before .pre .high) _ _ _ (c .before .before .before .before .before .before .before .loop .at) (c .before .before .before .before .before .before .before .loop .inv) (omega arith) _ (c .before .before .before .next-cell .ensures) (c .before .before .if1 .left) in
     omega (arith, h, c .before .before .before .before .before .before .before .loop .inv .high)
 
--- src/lib.rt:171:5
 loop-again : tie.Need-loop-again Inv-loop μ-loop
 loop-again c = reading-more (now (c .before .before .before .before .before .before .before .before .args .cells)) (c .before .before .before .before .before .before .before .before .args .base) (c .before .before .before .before .before .before .before .before .args .end) (c .before .before .before .before .before .before .before .before .pre .high) _ _ _ (c .before .before .before .before .before .before .before .loop .at) (c .before .before .before .before .before .before .before .loop .inv) (omega arith) _ (c .before .before .before .next-cell .ensures) _ (c .before .before .if1 .left)
     (c .tick .ensures ∙ ap (λ b. ticked (c .before .before .before .before .before .before .before .loop .calls) (c .before .before .before .before .before .before .before .before .args .from) (calledAs b [])) (c .before .before .before .before .before .byte-at .ensures))
 
--- src/lib.rt:180:14
 add-if2 : tie.Need-add-if2 Inv-loop μ-loop
 add-if2 c = omega (arith, c .before .before .pre .cells, near c)
 
--- src/lib.rt:180:14
 sub-if2 : tie.Need-sub-if2 Inv-loop μ-loop
 sub-if2 c = omega (arith, c .before .before .pre .cells, near c)
 
--- src/lib.rt:180:8
 mul-if2 : tie.Need-mul-if2 Inv-loop μ-loop
 mul-if2 c = omega (arith, c .before .before .pre .cells, near c)
 
--- src/lib.rt:180:8
 element-copy-out-if2 : tie.Need-element-copy-out-if2 Inv-loop μ-loop
 element-copy-out-if2 c = omega (arith, c .before .before .pre .cells, near c)
 
--- src/lib.rt:181:9
 returns-2 : tie.Need-returns-2 Inv-loop μ-loop
 returns-2 c = reading-unclosed (now (c .before .before .before .before .args .cells)) (c .before .before .before .before .args .base) (c .before .before .before .before .args .end) (c .before .before .before .before .pre .high) _ _ _ (c .before .before .before .loop .at) (c .before .before .before .loop .inv) (near (c .before .before))
     (λ e. c .if2 .taken (ap (ofZ w32) (sym (first (c .before .before)) ∙ e)))
 
--- src/lib.rt:183:14
 add-if3 : tie.Need-add-if3 Inv-loop μ-loop
 add-if3 c = omega (arith, c .before .before .before .before .pre .cells, near (c .before .before))
 
--- src/lib.rt:183:8
 mul-if3 : tie.Need-mul-if3 Inv-loop μ-loop
 mul-if3 c = omega (arith, c .before .before .before .before .pre .cells, near (c .before .before))
 
--- src/lib.rt:183:8
 element-copy-out-if3 : tie.Need-element-copy-out-if3 Inv-loop μ-loop
 element-copy-out-if3 c = omega (arith, c .before .before .before .before .pre .cells, near (c .before .before))
 
--- src/lib.rt:184:9
 returns-3 : tie.Need-returns-3 Inv-loop μ-loop
 returns-3 c = reading-unended (now (c .before .before .before .before .before .before .args .cells)) (c .before .before .before .before .before .before .args .base) (c .before .before .before .before .before .before .args .end) (c .before .before .before .before .before .before .pre .high) _ _ _ (c .before .before .before .before .before .loop .at) (c .before .before .before .before .before .loop .inv) (near (c .before .before .before .before))
     (first (c .before .before .before .before) ∙ is-zero (c .before .before .before) (c .before .before .if2 .left)) (λ e. c .if3 .taken (ap (ofZ w32) (sym (second (c .before .before .before .before)) ∙ e)))
 
--- src/lib.rt:160:1
 returns-4 : tie.Need-returns-4 Inv-loop μ-loop
 returns-4 c = reading-done (now (c .before .before .before .before .before .before .args .cells)) (c .before .before .before .before .before .before .args .base) (c .before .before .before .before .before .before .args .end) (c .before .before .before .before .before .before .pre .high) _ _ _ (c .before .before .before .before .before .loop .at) (c .before .before .before .before .before .loop .inv) (near (c .before .before .before .before))
     (first (c .before .before .before .before) ∙ is-zero (c .before .before .before) (c .before .before .if2 .left)) (second (c .before .before .before .before) ∙ is-one (c .before) (c .if3 .left))
 
 pub read-spec : {M : Type 1} → statement M
 read-spec =
-    tie.close
-    (tie.spec
-    Inv-loop
-    μ-loop
-    loop-holds
-    add-loop
-    byte-at-requires
-    cast-b
-    format-of-requires
-    next-cell-requires
-    returns
-    tick-requires
-    loop-less
-    loop-again
-    add-if2
-    sub-if2
-    mul-if2
-    element-copy-out-if2
-    returns-2
-    add-if3
-    mul-if3
-    element-copy-out-if3
-    returns-3
-    returns-4)
+    tie.close (tie.spec Inv-loop μ-loop loop-holds add-loop byte-at-requires cast-b format-of-requires next-cell-requires returns tick-requires
+    loop-less loop-again add-if2 sub-if2 mul-if2 element-copy-out-if2 returns-2 add-if3 mul-if3 element-copy-out-if3 returns-3 returns-4)

@@ -1,21 +1,17 @@
-use mathlib.Core.Path.{refl}
+-- `reach::either` meets its contract.
 use borrow.Author.Tests.{eq-eqb, ne-eqb}
 use Rattle.reach.proofs.either.Statement.{statement}
 use Rattle.reach.proofs.either.Tie as tie
-use Rattle.reach.proofs.either.Reads as reads
-use Rattle.reach.proofs.either.Lts as lts
 
--- src/lib.rt:65:9
 returns : tie.Need-returns
 returns c = rw (eq-eqb _ 1 (c .if1 .taken))
 
--- src/lib.rt:61:1
 returns-2 : tie.Need-returns-2
 returns-2 c = rw (ne-eqb _ 1 (c .before .if1 .left), eq-eqb _ 1 (c .if2 .taken))
 
--- src/lib.rt:61:1
 returns-3 : tie.Need-returns-3
 returns-3 c = rw (ne-eqb _ 1 (c .before .if1 .left), ne-eqb _ 1 (c .if2 .left))
 
 pub either-spec : {M : Type 1} → statement M
-either-spec = tie.close (tie.spec returns returns-2 returns-3)
+either-spec =
+    tie.close (tie.spec returns returns-2 returns-3)

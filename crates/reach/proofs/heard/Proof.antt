@@ -1,23 +1,18 @@
-use mathlib.Core.Path.{_≡_, refl, sym, ap, _∙_}
+-- `reach::heard` meets its contract.
+use mathlib.Core.Path.{_∙_}
 use borrow.Author.Tests.{eq-eqb, ne-eqb}
-use borrow.Author.Needs.{needs}
 use Rattle.reach.proofs.heard.Statement.{statement}
 use Rattle.reach.proofs.heard.Tie as tie
-use Rattle.reach.proofs.heard.Reads as reads
-use Rattle.reach.proofs.heard.Lts as lts
-use Rattle.reach.proofs.with_row.Reads as with-row-reads
 
--- src/lib.rt:90:9
 with-row-requires : tie.Need-with-row-requires
 with-row-requires c κs = c .before .pre
 
--- src/lib.rt:90:9
 returns : tie.Need-returns
 returns c = c .with-row .ensures ∙ (rw (eq-eqb _ 1 (c .before .if1 .taken)))
 
--- src/lib.rt:85:1
 returns-2 : tie.Need-returns-2
 returns-2 c = rw (ne-eqb _ 1 (c .if1 .left))
 
 pub heard-spec : {M : Type 1} → statement M
-heard-spec = tie.close (tie.spec with-row-requires returns returns-2)
+heard-spec =
+    tie.close (tie.spec with-row-requires returns returns-2)
