@@ -100,13 +100,14 @@ impl Store {
         store.vars = vars;
         Answer { store, report }
     }
+
     // Which letters the letter may call, through however many others, and which of those have no text.
     pub fn reach(self, letter: u8, reached: &mut [u8; LETTERS], missing: &mut [u8; LETTERS]) -> Told
         ensures { λ r. ⌜ Reported self letter (now (reached .entry)) (now (missing .entry)) r (now (reached .exit)) (now (missing .exit)) ⌝ }
     {
-        let used = self.used;
+        let counts = self.used;
         let vars = self.vars;
-        let number = reach::reach(&self.cells, &used, &vars, letter, reached, missing);
+        let number = reach::reach(&self.cells, &counts, &vars, letter, reached, missing);
         Told {
             store: self,
             number,
