@@ -12,15 +12,6 @@
 
 enum { LONGEST = 300, ROUNDS = 7 };
 
-static uint64_t state = 88172645463325252u;
-
-static uint32_t below(uint32_t n) {
-    state ^= state << 13;
-    state ^= state >> 7;
-    state ^= state << 17;
-    return (uint32_t)(state >> 32) % n;
-}
-
 static long compared, accepted, copied;
 
 /* Both linkers on one text. Their answers, counts and every cell must be equal. */

@@ -43,15 +43,6 @@ static int same(const rec_store *store, uint8_t letter) {
 
 /* ---- many stores ---- */
 
-static uint64_t state = 88172645463325252u;
-
-static uint32_t below(uint32_t n) {
-    state ^= state << 13;
-    state ^= state >> 7;
-    state ^= state << 17;
-    return (uint32_t)(state >> 32) % n;
-}
-
 static int32_t from_to(int32_t low, int32_t high) { return low + (int32_t)below((uint32_t)(high - low) + 1); }
 
 /* A table of n used cells that keeps its form: random marks, each where it fits. */

@@ -61,5 +61,24 @@ none-of true x P t y n = absurd (n (y tt))
 none-of false x P t y n = t
 
 -- b passes the test or is one of the keys, and it is none of the keys
-pub but-keys : (ks : List ℕ) (b : ℕ) (x : Bool) → T (either (hasKey ks b) x) → (OneOf ks b → ⊥) → T x
+but-keys : (ks : List ℕ) (b : ℕ) (x : Bool) → T (either (hasKey ks b) x) → (OneOf ks b → ⊥) → T x
 but-keys ks b x t n = none-of (hasKey ks b) x (OneOf ks b) t (hit ks b) n
+
+-- b is none of the keys of a match's arms, the last arm first
+abbrev pub NoneOf : List (List ℕ) → ℕ → Type 0
+NoneOf [] b = Unit {0}
+NoneOf (ks ∷ kss) b = NoneOf kss b × (OneOf ks b → ⊥)
+
+-- b passes the test or is one of those keys
+abbrev pub orKey : List (List ℕ) → ℕ → Bool → Bool
+orKey [] b x = x
+orKey (ks ∷ kss) b x = orKey kss b (either (hasKey ks b) x)
+
+but-arms : (kss : List (List ℕ)) (b : ℕ) (x : Bool) → T (orKey kss b x) → NoneOf kss b → T x
+but-arms [] b x t n = t
+but-arms (ks ∷ kss) b x t n = but-keys ks b x (but-arms kss b (either (hasKey ks b) x) t (n .0)) (n .1)
+
+-- in a range of bytes that all pass the test but for those keys, one that is none of them passes it
+pub in-gap : (f : ℕ → Bool) (kss : List (List ℕ)) (lo n : ℕ) → T (everyFrom (λ b. orKey kss b (f b)) lo n)
+    → (b : ℕ) → lo ≤ b → b < lo + n → NoneOf kss b → T (f b)
+in-gap f kss lo n t b h k r = but-arms kss b (f b) (in-range (λ b. orKey kss b (f b)) lo n t b h k) r

@@ -4,12 +4,11 @@ use mathlib.Core.Bool.{Bool}
 use mathlib.Core.List.{List, [], _∷_}
 use Prim.Native.Nat.{ℕ, _+_, _≤_, _<_}
 use lib.Dec.{T, eqb, eqb→eq}
-use mir.Val.{hasKey}
 use types.Run.{OneOf}
 use Rattle.language.specs.Limits.{maxLetters}
 use Rattle.language.specs.Letters.{firstLetter}
 use Rattle.lexer.specs.Lexing.{byteRank, kindRanked, kindOf}
-use Rattle.language.proofs.Keys.{either, everyFrom, everyOf, in-range, of-keys, but-keys}
+use Rattle.language.proofs.Keys.{everyFrom, everyOf, of-keys, orKey, in-gap}
 use native.Mathlib.Omega.{arith}
 use Rattle.lexer.proofs.kind_of.Statement.{statement}
 use Rattle.lexer.proofs.kind_of.Tie as tie
@@ -24,50 +23,15 @@ ranked k b t = ap kindRanked (sym (eqb→eq (byteRank b) k t))
 at-keys : (k : ℕ) (ks : List ℕ) → T (everyOf (has k) ks) → (b : ℕ) → OneOf ks b → kindRanked k ≡ kindOf b
 at-keys k ks t b h = ranked k b (of-keys (has k) ks t b h)
 
--- the byte has the rank or is one of the match's keys
-abbrev or-key : ℕ → ℕ → Bool
-or-key k b =
-    (either (hasKey (10 ∷ 32 ∷ []) b)
-    (either (hasKey (34 ∷ []) b)
-    (either (hasKey (40 ∷ []) b)
-    (either (hasKey (41 ∷ []) b)
-    (either (hasKey (44 ∷ 59 ∷ []) b)
-    (either (hasKey (46 ∷ 58 ∷ []) b)
-    (either (hasKey (45 ∷ 47 ∷ 65 ∷ 73 ∷ 88 ∷ []) b)
-    (either (hasKey (70 ∷ 83 ∷ []) b)
-    (either (hasKey (48 ∷ 74 ∷ 78 ∷ []) b)
-    (either (hasKey (36 ∷ []) b)
-    (either (hasKey (39 ∷ []) b)
-    (has k b))))))))))))
+-- the keys of the match's arms, the last arm first
+abbrev arms : List (List ℕ)
+arms =
+    (39 ∷ []) ∷ (36 ∷ []) ∷ (48 ∷ 74 ∷ 78 ∷ []) ∷ (70 ∷ 83 ∷ []) ∷ (45 ∷ 47 ∷ 65 ∷ 73 ∷ 88 ∷ []) ∷ (46 ∷ 58 ∷ []) ∷ (44 ∷ 59 ∷ []) ∷ (41 ∷ []) ∷ (40 ∷ [])
+    ∷ (34 ∷ []) ∷ (10 ∷ 32 ∷ []) ∷ []
 
-in-gap : (c : tie.At-match-rest) (k lo n : ℕ) → T (everyFrom (or-key k) lo n) → lo ≤ c .before .args .b → c .before .args .b < lo + n → kindRanked k ≡ kindOf (c .before .args .b)
-in-gap c k lo n t h h′ =
-    let b : ℕ = c .before .args .b in
-    let r = c .match .rest in
-    ranked k b
-    (but-keys (39 ∷ []) b _
-    (but-keys (36 ∷ []) b _
-    (but-keys (48 ∷ 74 ∷ 78 ∷ []) b _
-    (but-keys (70 ∷ 83 ∷ []) b _
-    (but-keys (45 ∷ 47 ∷ 65 ∷ 73 ∷ 88 ∷ []) b _
-    (but-keys (46 ∷ 58 ∷ []) b _
-    (but-keys (44 ∷ 59 ∷ []) b _
-    (but-keys (41 ∷ []) b _
-    (but-keys (40 ∷ []) b _
-    (but-keys (34 ∷ []) b _
-    (but-keys (10 ∷ 32 ∷ []) b _
-    (in-range (or-key k) lo n t b h h′)
-    (r .0 .0 .0 .0 .0 .0 .0 .0 .0 .0 .1))
-    (r .0 .0 .0 .0 .0 .0 .0 .0 .0 .1))
-    (r .0 .0 .0 .0 .0 .0 .0 .0 .1))
-    (r .0 .0 .0 .0 .0 .0 .0 .1))
-    (r .0 .0 .0 .0 .0 .0 .1))
-    (r .0 .0 .0 .0 .0 .1))
-    (r .0 .0 .0 .0 .1))
-    (r .0 .0 .0 .1))
-    (r .0 .0 .1))
-    (r .0 .1))
-    (r .1))
+between-keys : (c : tie.At-match-rest) (k lo n : ℕ) → T (everyFrom (λ b. orKey arms b (has k b)) lo n) → lo ≤ c .before .args .b → c .before .args .b < lo + n
+    → kindRanked k ≡ kindOf (c .before .args .b)
+between-keys c k lo n t h h′ = ranked k (c .before .args .b) (in-gap (has k) arms lo n t (c .before .args .b) h h′ (c .match .rest))
 
 returns : tie.Need-returns
 unfolding byteRank
@@ -111,27 +75,27 @@ returns-10 c = at-keys 11 (39 ∷ []) tt (c .before .args .b) (c .match .keys11)
 
 returns-11 : tie.Need-returns-11
 unfolding byteRank
-returns-11 c = in-gap (c .before .before .before) 12 44 14 tt (omega arith) (omega arith)
+returns-11 c = between-keys (c .before .before .before) 12 44 14 tt (omega arith) (omega arith)
 
 returns-12 : tie.Need-returns-12
 unfolding byteRank
-returns-12 c = in-gap (c .before .before .before .before .before .before .before) 9 firstLetter maxLetters tt (omega arith) (omega arith)
+returns-12 c = between-keys (c .before .before .before .before .before .before .before) 9 firstLetter maxLetters tt (omega arith) (omega arith)
 
 returns-13 : tie.Need-returns-13
 unfolding byteRank
-returns-13 c = in-gap (c .before) 13 0 39 tt (omega arith) (omega arith)
+returns-13 c = between-keys (c .before) 13 0 39 tt (omega arith) (omega arith)
 
 returns-14 : tie.Need-returns-14
 unfolding byteRank
-returns-14 c = in-gap (c .before .before .before .before) 13 58 18 tt (omega arith) (omega arith)
+returns-14 c = between-keys (c .before .before .before .before) 13 58 18 tt (omega arith) (omega arith)
 
 returns-15 : tie.Need-returns-15
 unfolding byteRank
-returns-15 c = in-gap (c .before .before .before .before .before .before) 13 81 16 tt (omega arith) (omega arith)
+returns-15 c = between-keys (c .before .before .before .before .before .before) 13 81 16 tt (omega arith) (omega arith)
 
 returns-16 : tie.Need-returns-16
 unfolding byteRank
-returns-16 c = in-gap (c .before .before .before .before .before .before .before) 13 123 133 tt (omega arith) (omega arith)
+returns-16 c = between-keys (c .before .before .before .before .before .before .before) 13 123 133 tt (omega arith) (omega arith)
 
 returns-17 : tie.Need-returns-17
 unfolding byteRank
@@ -139,11 +103,11 @@ returns-17 c = at-keys 6 (45 ∷ 47 ∷ 65 ∷ 73 ∷ 88 ∷ []) tt (c .before .
 
 returns-18 : tie.Need-returns-18
 unfolding byteRank
-returns-18 c = in-gap (c .before .before) 6 39 5 tt (omega arith) (omega arith)
+returns-18 c = between-keys (c .before .before) 6 39 5 tt (omega arith) (omega arith)
 
 returns-19 : tie.Need-returns-19
 unfolding byteRank
-returns-19 c = in-gap (c .before .before .before .before .before) 6 76 5 tt (omega arith) (omega arith)
+returns-19 c = between-keys (c .before .before .before .before .before) 6 76 5 tt (omega arith) (omega arith)
 
 pub kind-of-spec : {M : Type 1} → statement M
 kind-of-spec =

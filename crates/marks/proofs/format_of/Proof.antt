@@ -5,11 +5,10 @@ use mathlib.Core.List.{List, [], _∷_}
 use Prim.Native.Nat.{ℕ, _+_, _≤_, _<_}
 use native.Mathlib.Omega.{arith}
 use lib.Dec.{T, eqb, eqb→eq}
-use mir.Val.{hasKey}
 use types.Run.{OneOf}
 use Rattle.language.specs.Limits.{maxLetters}
 use Rattle.language.specs.Letters.{firstLetter}
-use Rattle.language.proofs.Keys.{either, everyFrom, everyOf, in-range, of-keys, but-keys}
+use Rattle.language.proofs.Keys.{everyFrom, everyOf, of-keys, orKey, in-gap}
 use Rattle.marks.specs.declared.Format.{Format}
 use Rattle.marks.specs.declared.Format.the-variants.{Bare, Digit, Value, Exit, Counter, Bytes, Transfer, NoCode}
 use Rattle.marks.specs.Formats.{formatOf}
@@ -51,38 +50,13 @@ of-rank f b t = sym (ranked-back f) ∙ ap ranked (sym (eqb→eq (rank (formatOf
 at-keys : (f : Format) (ks : List ℕ) → T (everyOf (has f) ks) → (b : ℕ) → OneOf ks b → f ≡ formatOf b
 at-keys f ks t b h = of-rank f b (of-keys (has f) ks t b h)
 
--- the byte has the format or is one of the match's keys
-abbrev or-key : Format → ℕ → Bool
-or-key f b =
-    (either (hasKey (45 ∷ 47 ∷ 65 ∷ 73 ∷ 88 ∷ []) b)
-    (either (hasKey (70 ∷ 83 ∷ []) b)
-    (either (hasKey (175 ∷ []) b)
-    (either (hasKey (48 ∷ 74 ∷ 78 ∷ []) b)
-    (either (hasKey (36 ∷ []) b)
-    (either (hasKey (167 ∷ []) b)
-    (either (hasKey (255 ∷ []) b)
-    (has f b))))))))
+-- the keys of the match's arms, the last arm first
+abbrev arms : List (List ℕ)
+arms = (255 ∷ []) ∷ (167 ∷ []) ∷ (36 ∷ []) ∷ (48 ∷ 74 ∷ 78 ∷ []) ∷ (175 ∷ []) ∷ (70 ∷ 83 ∷ []) ∷ (45 ∷ 47 ∷ 65 ∷ 73 ∷ 88 ∷ []) ∷ []
 
-in-gap : (c : tie.At-match-rest) (f : Format) (lo n : ℕ) → T (everyFrom (or-key f) lo n) → lo ≤ c .before .args .b → c .before .args .b < lo + n → f ≡ formatOf (c .before .args .b)
-in-gap c f lo n t h k =
-    let b : ℕ = c .before .args .b in
-    let r = c .match .rest in
-    of-rank f b
-    (but-keys (255 ∷ []) b _
-    (but-keys (167 ∷ []) b _
-    (but-keys (36 ∷ []) b _
-    (but-keys (48 ∷ 74 ∷ 78 ∷ []) b _
-    (but-keys (175 ∷ []) b _
-    (but-keys (70 ∷ 83 ∷ []) b _
-    (but-keys (45 ∷ 47 ∷ 65 ∷ 73 ∷ 88 ∷ []) b _
-    (in-range (or-key f) lo n t b h k)
-    (r .0 .0 .0 .0 .0 .0 .1))
-    (r .0 .0 .0 .0 .0 .1))
-    (r .0 .0 .0 .0 .1))
-    (r .0 .0 .0 .1))
-    (r .0 .0 .1))
-    (r .0 .1))
-    (r .1))
+between-keys : (c : tie.At-match-rest) (f : Format) (lo n : ℕ) → T (everyFrom (λ b. orKey arms b (has f b)) lo n) → lo ≤ c .before .args .b
+    → c .before .args .b < lo + n → f ≡ formatOf (c .before .args .b)
+between-keys c f lo n t h k = of-rank f (c .before .args .b) (in-gap (has f) arms lo n t (c .before .args .b) h k (c .match .rest))
 
 returns : tie.Need-returns
 unfolding formatOf
@@ -106,19 +80,19 @@ returns-5 c = at-keys Transfer (255 ∷ []) tt (c .before .args .b) (c .match .k
 
 returns-6 : tie.Need-returns-6
 unfolding formatOf
-returns-6 c = in-gap (c .before) NoCode 0 42 tt (omega arith) (omega arith)
+returns-6 c = between-keys (c .before) NoCode 0 42 tt (omega arith) (omega arith)
 
 returns-7 : tie.Need-returns-7
 unfolding formatOf
-returns-7 c = in-gap (c .before .before .before) NoCode 44 32 tt (omega arith) (omega arith)
+returns-7 c = between-keys (c .before .before .before) NoCode 44 32 tt (omega arith) (omega arith)
 
 returns-8 : tie.Need-returns-8
 unfolding formatOf
-returns-8 c = in-gap (c .before .before .before .before .before) NoCode 81 16 tt (omega arith) (omega arith)
+returns-8 c = between-keys (c .before .before .before .before .before) NoCode 81 16 tt (omega arith) (omega arith)
 
 returns-9 : tie.Need-returns-9
 unfolding formatOf
-returns-9 c = in-gap (c .before .before .before .before .before .before) NoCode 123 133 tt (omega arith) (omega arith)
+returns-9 c = between-keys (c .before .before .before .before .before .before) NoCode 123 133 tt (omega arith) (omega arith)
 
 returns-10 : tie.Need-returns-10
 unfolding formatOf
@@ -126,7 +100,7 @@ returns-10 c = at-keys Exit (48 ∷ 74 ∷ 78 ∷ []) tt (c .before .args .b) (c
 
 returns-11 : tie.Need-returns-11
 unfolding formatOf
-returns-11 c = in-gap (c .before .before .before .before .before .before) Exit firstLetter maxLetters tt (omega arith) (omega arith)
+returns-11 c = between-keys (c .before .before .before .before .before .before) Exit firstLetter maxLetters tt (omega arith) (omega arith)
 
 returns-12 : tie.Need-returns-12
 unfolding formatOf
@@ -134,11 +108,11 @@ returns-12 c = at-keys Bare (45 ∷ 47 ∷ 65 ∷ 73 ∷ 88 ∷ []) tt (c .befor
 
 returns-13 : tie.Need-returns-13
 unfolding formatOf
-returns-13 c = in-gap (c .before .before) Bare 42 2 tt (omega arith) (omega arith)
+returns-13 c = between-keys (c .before .before) Bare 42 2 tt (omega arith) (omega arith)
 
 returns-14 : tie.Need-returns-14
 unfolding formatOf
-returns-14 c = in-gap (c .before .before .before .before) Bare 76 5 tt (omega arith) (omega arith)
+returns-14 c = between-keys (c .before .before .before .before) Bare 76 5 tt (omega arith) (omega arith)
 
 pub format-of-spec : {M : Type 1} → statement M
 format-of-spec =
