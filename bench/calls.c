@@ -11,8 +11,6 @@ enum { ROUNDS = 15 };
 
 /* ---- the calls that are measured ---- */
 
-static int32_t define(struct side *s, uint8_t letter, const char *text) { return s->define(&s->store, letter, (const uint8_t *)text, strlen(text)); }
-
 static int32_t fresh(struct side *s) {
     s->fresh(&s->store);
     return 0;

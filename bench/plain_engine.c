@@ -28,6 +28,9 @@ int32_t plain_withdraw(rec_store *store, uint8_t letter) {
 
 static int target_of(int32_t x, int used) { return x < 2 || used < x ? 0 : x; }
 
+/* The table of a letter, cell 1 at [1]. */
+static inline const int32_t *table_of(const int32_t *cells, int letter) { return cells + letter * REC_CELLS - 1; }
+
 /* A run that is not refused. Apart from plain_run, inside which it is slower. */
 __attribute__((noinline)) static int32_t obey(const int32_t *cells, const size_t *used, int32_t *kept, int letter, uint32_t allowance,
                                               const int32_t *inputs, size_t count, int32_t *list, uint8_t *output, size_t room, rec_report *report) {
@@ -38,15 +41,16 @@ __attribute__((noinline)) static int32_t obey(const int32_t *cells, const size_t
     size_t taken = 0, written = 0;
     uint32_t left = allowance;
     memcpy(vars, kept, sizeof vars);
+    int n = (int)used[letter]; /* this and t change with the letter only */
+    const int32_t *t = table_of(cells, letter);
     for (;;) {
-        int n = (int)used[letter];
-        const int32_t *t = cells + letter * REC_CELLS - 1;
         if (at < 2 || n < at) { end = REC_DAMAGED; break; }
         int32_t x = t[at];
         if (at == n) {
             if (x != 1) { end = REC_DAMAGED; break; }
             if (depth == 0) { truth = 1; break; }
             depth--; letter = frames[depth].letter; at = frames[depth].next;
+            n = (int)used[letter]; t = table_of(cells, letter);
             continue;
         }
         if (at + 1 == n) {
@@ -55,6 +59,7 @@ __attribute__((noinline)) static int32_t obey(const int32_t *cells, const size_t
             left--;
             if (depth == 0) break;
             depth--; letter = frames[depth].letter; at = frames[depth].exit;
+            n = (int)used[letter]; t = table_of(cells, letter);
             continue;
         }
         if (0 < x) {
@@ -190,6 +195,7 @@ __attribute__((noinline)) static int32_t obey(const int32_t *cells, const size_t
                 if (REC_CALLS <= depth) { end = REC_DEEP_CALLS; goto out; }
                 frames[depth].letter = letter; frames[depth].next = at + 2; frames[depth].exit = f;
                 depth++; letter = a; at = 2; left--;
+                n = (int)used[letter]; t = table_of(cells, letter);
             }
         }
     }

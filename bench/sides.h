@@ -21,15 +21,20 @@ struct side {
 static struct side sides[2] = {{.fresh = rec_fresh, .define = rec_define, .withdraw = rec_withdraw, .run = rec_run},
                                {.fresh = plain_fresh, .define = plain_define, .withdraw = plain_withdraw, .run = plain_run}};
 
+static inline int32_t define(struct side *s, uint8_t letter, const char *text) {
+    return s->define(&s->store, letter, (const uint8_t *)text, strlen(text));
+}
+
 static inline int32_t run(struct side *s, uint8_t letter, uint32_t allowance, const int32_t *inputs, size_t count) {
     return s->run(&s->store, letter, allowance, inputs, count, s->list, REC_LIST, s->output, PAPER, &s->report);
 }
 
-/* Whether both sides have the same store and the same answer of the last run. */
-static inline int same_sides(void) {
-    const struct side *a = &sides[0], *b = &sides[1];
+/* Whether two sides have the same store and the same answer of the last run. */
+static inline int same(const struct side *a, const struct side *b) {
     return memcmp(&a->store, &b->store, sizeof a->store) == 0 && memcmp(a->list, b->list, sizeof a->list) == 0
         && memcmp(a->output, b->output, PAPER) == 0 && memcmp(&a->report, &b->report, sizeof a->report) == 0;
 }
+
+static inline int same_sides(void) { return same(&sides[0], &sides[1]); }
 
 #endif

@@ -46,7 +46,7 @@ pub fn call<'a>(
         r.at = Table::CODE_START;
         r.depth = d + 1;
         r.left = m.left - 1;
-        r.state = Machine::GOES;
+        r.state = Machine::ENTERS;
         r
     } else {
         m.stop(Ending::DeepCalls)

@@ -1,2 +1,5 @@
+pub mod Cells
 pub mod Loop
 pub mod Runs
+pub mod Claims
+pub mod Examples

@@ -24,7 +24,8 @@ use Rattle.language.specs.Machine.{arrived, onEffect, onVerdict, return, arrive
 use Rattle.language.specs.Statements.{Lent}
 use Rattle.language.proofs.MachineInvariants.{VerdictSo}
 use Rattle.language.proofs.EffectsLent.{LentEffect, lent-performed, lent-asked}
-use Rattle.operands.specs.Loop.{Spot, spot, Turn, continues, finishes, halt, back, onward, effectTurn, verdictTurn, callTurn, instructionTurn, decodedTurn}
+use Rattle.operands.specs.Loop.{Spot, spot, Turn, continues, enters, finishes, halt, back, onward, effectTurn, verdictTurn, callTurn, instructionTurn, decodedTurn}
+use Rattle.interpreter.proofs.Cells.{Inner, Within}
 
 -- ── what the machine comes to ───────────────────────────────────────────────────────────────────
 
@@ -45,6 +46,7 @@ module _ (at : ℕ → ℕ → Decoded) (stands : ℕ → Bool) where
   unfoldable pub after : Turn → Outcome
   unfolding runAt
   after (continues m) = runAt m
+  after (enters m) = runAt m
   after (finishes o) = o
 
 module _ (at : ℕ → ℕ → Decoded) (stands : ℕ → Bool) where
@@ -77,7 +79,7 @@ module _ (at : ℕ → ℕ → Decoded) (stands : ℕ → Bool) where
       go : (v : Bool)
           → cond v (run at stands r (arrive at stands (record { letter = l; next = n; exit = f } ∷ fr) a codeStart) s) (stopped DeepCalls s (suc r))
           ≡ after at stands
-          (cond v (continues (spot a codeStart (record { letter = l; next = n; exit = f } ∷ fr) s (suc r - 1))) (finishes (stopped DeepCalls s (suc r))))
+          (cond v (enters (spot a codeStart (record { letter = l; next = n; exit = f } ∷ fr) s (suc r - 1))) (finishes (stopped DeepCalls s (suc r))))
       go true = rw less-one
       go false = refl
 
@@ -110,10 +112,15 @@ module _ (at : ℕ → ℕ → Decoded) (stands : ℕ → Bool) where
 abbrev pub toGo : Spot → ℕ
 toGo m = m .left + m .left + length (m .frames)
 
--- the open calls are of letters
-abbrev Letters : List Frame → Type 0
-Letters [] = Unit {0}
-Letters (f ∷ fr) = (f .letter < maxLetters) × Letters fr
+-- the open calls are of letters, and go back to cells of the code
+pub record Caller (f : Frame) : Type 0 where
+  pub letter : f .letter < maxLetters
+  pub next : Inner (f .next)
+  pub exit : Inner (f .exit)
+
+abbrev Callers : List Frame → Type 0
+Callers [] = Unit {0}
+Callers (f ∷ fr) = Caller f × Callers fr
 
 -- an ending that stops a run: its number is not that of a finished one
 abbrev pub Stopping : Ending → Type 0
@@ -124,7 +131,8 @@ module _ (n : ℕ) (o : List ℕ) where
   -- a spot that the allowance and the limits allow
   pub record Fit (m : Spot) : Type 0 where
     pub letter : m .letter < maxLetters
-    pub letters : Letters (m .frames)
+    pub cell : Inner (m .cell)
+    pub callers : Callers (m .frames)
     pub calls : length (m .frames) ≤ maxCalls
     pub lent : Lent o (m .state)
     pub spent : m .left ≤ n
@@ -137,12 +145,14 @@ module _ (n : ℕ) (o : List ℕ) where
   -- a turn keeps to them
   abbrev pub Kept : Turn → Type 0
   Kept (continues m) = Fit m
+  Kept (enters m) = Fit m
   Kept (finishes (ended t s r)) = Over s r
   Kept (finishes (stopped e s r)) = Over s r × Stopping e
 
   -- and, where it goes on, has less to go than g
   abbrev pub Sound : ℕ → Turn → Type 0
   Sound g (continues m) = Fit m × (toGo m < g)
+  Sound g (enters m) = Fit m × (toGo m < g)
   Sound g (finishes (ended t s r)) = Over s r
   Sound g (finishes (stopped e s r)) = Over s r × Stopping e
 
@@ -216,62 +226,116 @@ module _ (n : ℕ) (o : List ℕ) where
   over-of : (m : Spot) → Fit n o m → Over n o (m .state) (m .left)
   over-of m f = record { lent = f .lent; left = f .spent }
 
-  back-sound : (g : ℕ) (fr : List Frame) (t : Bool) (s : State) (r : ℕ) → Letters fr → length fr ≤ maxCalls → Lent o s → r ≤ n
+  picked : (t : Bool) {a b : ℕ} → Inner a → Inner b → Inner (pick t a b)
+  unfolding pick
+  picked true i j = i
+  picked false i j = j
+
+  back-sound : (g : ℕ) (fr : List Frame) (t : Bool) (s : State) (r : ℕ) → Callers fr → length fr ≤ maxCalls → Lent o s → r ≤ n
       → r + r + length fr ≤ g → Sound n o g (back fr t s r)
   back-sound g [] t s r a b c d e = record { lent = c; left = d }
   back-sound g (f ∷ fr) t s r a b c d e =
-      (record { letter = a .0; letters = a .1; calls = omega arith; lent = c; spent = d }, omega arith)
+      (record { letter = a .0 .letter; cell = picked t (a .0 .next) (a .0 .exit); callers = a .1; calls = omega arith; lent = c; spent = d }, omega arith)
 
-  onward-sound : (q : ℕ) (s : State) (m : Spot) → Fit n o m → 0 < m .left → Lent o s → Sound n o (toGo m) (onward q s m)
-  onward-sound q s m f p h =
+  onward-sound : (q : ℕ) (s : State) (m : Spot) → Fit n o m → 0 < m .left → Inner q → Lent o s → Sound n o (toGo m) (onward q s m)
+  onward-sound q s m f p i h =
       let k = f .spent in
-      (record { letter = f .letter; letters = f .letters; calls = f .calls; lent = h; spent = omega arith }, omega arith)
+      (record { letter = f .letter; cell = i; callers = f .callers; calls = f .calls; lent = h; spent = omega arith }, omega arith)
 
-  effect-sound : (e : Effect) (q : ℕ) (m : Spot) → Fit n o m → 0 < m .left → LentEffect o e → Halting e → Sound n o (toGo m) (effectTurn e q m)
-  effect-sound (goes s) q m f p h k = onward-sound q s m f p h
-  effect-sound (stops e) q m f p h k = (over-of m f, k)
+  effect-sound : (e : Effect) (q : ℕ) (m : Spot) → Fit n o m → 0 < m .left → Inner q → LentEffect o e → Halting e → Sound n o (toGo m) (effectTurn e q m)
+  effect-sound (goes s) q m f p i h k = onward-sound q s m f p i h
+  effect-sound (stops e) q m f p i h k = (over-of m f, k)
 
-  verdict-sound : (v : Verdict) (a b : ℕ) (m : Spot) → Fit n o m → 0 < m .left → VerdictSo (Lent o) v → Stalling v
+  verdict-sound : (v : Verdict) (a b : ℕ) (m : Spot) → Fit n o m → 0 < m .left → Inner a → Inner b → VerdictSo (Lent o) v → Stalling v
       → Sound n o (toGo m) (verdictTurn v a b m)
-  verdict-sound (answers u s) a b m f p h k = onward-sound (pick u a b) s m f p h
-  verdict-sound (stalls e) a b m f p h k = (over-of m f, k)
+  verdict-sound (answers u s) a b m f p i j h k = onward-sound (pick u a b) s m f p (picked u i j) h
+  verdict-sound (stalls e) a b m f p i j h k = (over-of m f, k)
 
-  call-sound : (u : Bool) (a x y : ℕ) (m : Spot) → Fit n o m → 0 < m .left → (u ≡ true → a < maxLetters) → Sound n o (toGo m) (callTurn u a x y m)
+  call-sound : (u : Bool) (a x y : ℕ) (m : Spot) → Fit n o m → 0 < m .left → Inner x → Inner y → (u ≡ true → a < maxLetters)
+      → Sound n o (toGo m) (callTurn u a x y m)
   unfolding onCall
-  call-sound false a x y m f p h = (over-of m f, λ z. omega arith)
-  call-sound true a x y m f p h = go (ltb (length (m .frames)) maxCalls) refl
+  call-sound false a x y m f p i j h = (over-of m f, λ z. omega arith)
+  call-sound true a x y m f p i j h = go (ltb (length (m .frames)) maxCalls) refl
     where
       go : (v : Bool) → ltb (length (m .frames)) maxCalls ≡ v
           → Sound n o (toGo m)
-          (cond v (continues (spot a codeStart (record { letter = m .letter; next = x; exit = y } ∷ m .frames) (m .state) (m .left - 1))) (halt DeepCalls m))
+          (cond v (enters (spot a codeStart (record { letter = m .letter; next = x; exit = y } ∷ m .frames) (m .state) (m .left - 1))) (halt DeepCalls m))
       go true e =
           let k : length (m .frames) < maxCalls = ltb-true _ _ e in
           let l = f .spent in
-          (record { letter = h refl; letters = (f .letter, f .letters); calls = omega arith; lent = f .lent; spent = omega arith }, omega arith)
+          let b : Caller (record { letter = m .letter; next = x; exit = y }) = record { letter = f .letter; next = i; exit = j } in
+          (record { letter = h refl; cell = record { first = omega arith; final = omega arith }; callers = (b, f .callers); calls = omega arith; lent = f .lent; spent = omega arith }, omega arith)
       go false e = (over-of m f, λ z. omega arith)
 
   module _ (stands : ℕ → Bool) (letters : (a : ℕ) → stands a ≡ true → a < maxLetters) where
-    instruction-sound : (i : Instruction) (m : Spot) → Fit n o m → 0 < m .left → Sound n o (toGo m) (instructionTurn stands i m)
-    instruction-sound (transfer q) m f p = onward-sound q (m .state) m f p (f .lent)
-    instruction-sound fail m f p =
-        back-sound (toGo m) (m .frames) false (m .state) (m .left - 1) (f .letters) (f .calls) (f .lent) (omega (arith, f .spent)) (omega arith)
-    instruction-sound (operateAt x q) m f p =
-        effect-sound (perform x (m .state)) q m f p (lent-performed o x (m .state) tt (f .lent)) (halting-performed x (m .state))
-    instruction-sound (testAt t a b) m f p =
-        verdict-sound (ask (m .letter) t (m .state)) a b m f p (lent-asked o (m .letter) t (m .state) (f .lent)) (stalling-asked (m .letter) t (m .state))
-    instruction-sound (callAt a x y) m f p = call-sound (stands a) a x y m f p (letters a)
+    instruction-sound : (i : Instruction) (m : Spot) → Within (code i) → Fit n o m → 0 < m .left → Sound n o (toGo m) (instructionTurn stands i m)
+    unfolding Within
+    instruction-sound (transfer q) m w f p = onward-sound q (m .state) m f p w (f .lent)
+    instruction-sound fail m w f p =
+        back-sound (toGo m) (m .frames) false (m .state) (m .left - 1) (f .callers) (f .calls) (f .lent) (omega (arith, f .spent)) (omega arith)
+    instruction-sound (operateAt x q) m w f p =
+        effect-sound (perform x (m .state)) q m f p w (lent-performed o x (m .state) tt (f .lent)) (halting-performed x (m .state))
+    instruction-sound (testAt t a b) m w f p =
+        verdict-sound (ask (m .letter) t (m .state)) a b m f p (w .0) (w .1) (lent-asked o (m .letter) t (m .state) (f .lent)) (stalling-asked (m .letter) t (m .state))
+    instruction-sound (callAt a x y) m w f p = call-sound (stands a) a x y m f p (w .0) (w .1) (letters a)
 
-    due-sound : (u : Bool) (i : Instruction) (m : Spot) → Fit n o m → eqb (m .left) 0 ≡ u
+    due-sound : (u : Bool) (i : Instruction) (m : Spot) → Within (code i) → Fit n o m → eqb (m .left) 0 ≡ u
         → Sound n o (toGo m) (cond u (halt Spent m) (instructionTurn stands i m))
-    due-sound true i m f e = (over-of m f, λ z. omega arith)
-    due-sound false i m f e = let k : m .left ≡ 0 → ⊥ = eqb-false _ _ e in instruction-sound i m f (omega arith)
-
-    decoded-sound : (x : Decoded) (m : Spot) → Fit n o m → Sound n o (toGo m) (decodedTurn stands x m)
-    decoded-sound last m f =
-        back-sound (toGo m) (m .frames) true (m .state) (m .left) (f .letters) (f .calls) (f .lent) (f .spent) (omega arith)
-    decoded-sound damaged m f = (over-of m f, λ z. omega arith)
-    decoded-sound (code i) m f = due-sound (eqb (m .left) 0) i m f refl
+    due-sound true i m w f e = (over-of m f, λ z. omega arith)
+    due-sound false i m w f e = let k : m .left ≡ 0 → ⊥ = eqb-false _ _ e in instruction-sound i m w f (omega arith)
 
     -- a turn from a spot that fits is sound
-    pub turn-sound : (at : ℕ → ℕ → Decoded) (m : Spot) → Fit n o m → Sound n o (toGo m) (oneTurn at stands m)
-    turn-sound at m f = decoded-sound (at (m .letter) (m .cell)) m f
+    pub decoded-sound : (x : Decoded) (m : Spot) → Within x → Fit n o m → Sound n o (toGo m) (decodedTurn stands x m)
+    decoded-sound last m w f =
+        back-sound (toGo m) (m .frames) true (m .state) (m .left) (f .callers) (f .calls) (f .lent) (f .spent) (omega arith)
+    decoded-sound damaged m w f = (over-of m f, λ z. omega arith)
+    decoded-sound (code i) m w f = due-sound (eqb (m .left) 0) i m w f refl
+
+-- ── a turn that goes on ─────────────────────────────────────────────────────────────────────────
+
+-- it goes on in the same letter
+abbrev pub Stays : ℕ → Turn → Type 0
+Stays l (continues m) = m .letter ≡ l
+Stays l (enters m) = Unit {0}
+Stays l (finishes o) = Unit {0}
+
+back-stays : (l : ℕ) (fr : List Frame) (t : Bool) (s : State) (r : ℕ) → Stays l (back fr t s r)
+back-stays l [] t s r = tt
+back-stays l (f ∷ fr) t s r = tt
+
+effect-stays : (e : Effect) (q : ℕ) (m : Spot) → Stays (m .letter) (effectTurn e q m)
+effect-stays (goes s) q m = refl
+effect-stays (stops e) q m = tt
+
+verdict-stays : (v : Verdict) (a b : ℕ) (m : Spot) → Stays (m .letter) (verdictTurn v a b m)
+verdict-stays (answers u s) a b m = refl
+verdict-stays (stalls e) a b m = tt
+
+call-stays : (u : Bool) (a x y : ℕ) (m : Spot) → Stays (m .letter) (callTurn u a x y m)
+unfolding onCall
+call-stays false a x y m = tt
+call-stays true a x y m = go (ltb (length (m .frames)) maxCalls)
+  where
+    go : (v : Bool)
+        → Stays (m .letter)
+        (cond v (enters (spot a codeStart (record { letter = m .letter; next = x; exit = y } ∷ m .frames) (m .state) (m .left - 1))) (halt DeepCalls m))
+    go true = tt
+    go false = tt
+
+module _ (stands : ℕ → Bool) where
+  instruction-stays : (i : Instruction) (m : Spot) → Stays (m .letter) (instructionTurn stands i m)
+  instruction-stays (transfer q) m = refl
+  instruction-stays fail m = back-stays (m .letter) (m .frames) false (m .state) (m .left - 1)
+  instruction-stays (operateAt x q) m = effect-stays (perform x (m .state)) q m
+  instruction-stays (testAt t a b) m = verdict-stays (ask (m .letter) t (m .state)) a b m
+  instruction-stays (callAt a x y) m = call-stays (stands a) a x y m
+
+  -- any turn
+  pub decoded-stays : (x : Decoded) (m : Spot) → Stays (m .letter) (decodedTurn stands x m)
+  decoded-stays last m = back-stays (m .letter) (m .frames) true (m .state) (m .left)
+  decoded-stays damaged m = tt
+  decoded-stays (code i) m = go (eqb (m .left) 0)
+    where
+      go : (u : Bool) → Stays (m .letter) (cond u (halt Spent m) (instructionTurn stands i m))
+      go true = tt
+      go false = instruction-stays i m

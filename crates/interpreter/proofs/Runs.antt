@@ -3,6 +3,7 @@ use mathlib.Core.Path.{_≡_, refl, sym, ap, _∙_, subst}
 use mathlib.Core.Bool.{Bool, true, false, cond, not}
 use mathlib.Core.List.{List, [], _∷_}
 use Prim.Native.Nat.{ℕ, zero, suc, _+_, _≤_, _<_}
+use native.Mathlib.Nat.{le-refl}
 use native.Mathlib.Omega.{arith}
 use lib.Dec.{eqb, ltb}
 use lib.IntN.{ℤ}
@@ -16,12 +17,15 @@ use Rattle.language.specs.Statements.{Lent}
 use Rattle.language.specs.Tables.{decodeAt, standsAt}
 use Rattle.book.specs.Replies.{replied, reported}
 use Rattle.operands.specs.declared.Machine.{Machine}
-use Rattle.operands.specs.Loop.{Turn, continues, finishes}
-use Rattle.operands.specs.Held.{Held, frameNumbers, stateOf, spotOf, endingOf, outcome}
-use Rattle.operands.specs.Turns.{turnOf}
+use Rattle.operands.specs.Loop.{Turn, continues, enters, finishes}
+use Rattle.operands.specs.Held.{Held, frameNumbers, stateOf, spotOf, endingOf, outcome, onMachine}
+use Rattle.operands.specs.Turns.{dueAt}
 use Rattle.operands.proofs.Held.{length-frames, ending-known, ending-high}
-use Rattle.interpreter.specs.Runs.{figuresOf, Driven}
-use Rattle.interpreter.proofs.Loop.{after, toGo, Fit, Kept, Sound, turn-run, turn-sound}
+use Rattle.interpreter.specs.declared.cycle.Fetched.{Fetched}
+use Rattle.interpreter.specs.Runs.{Counted, figuresOf, Driven}
+use Rattle.interpreter.specs.Fetching.{fetched}
+use Rattle.interpreter.proofs.Cells.{decode-within}
+use Rattle.interpreter.proofs.Loop.{after, oneTurn, toGo, Fit, Kept, Sound, turn-run, decoded-sound, Stays, decoded-stays}
 
 -- what the loop keeps of what the code holds: the run comes to r, within the allowance n, the limits and the output o
 pub record Looping (n : ℕ) (o : List ℕ) (r : Outcome) (h : Held) : Type 0 where
@@ -29,12 +33,48 @@ pub record Looping (n : ℕ) (o : List ℕ) (r : Outcome) (h : Held) : Type 0 wh
   pub kept : Kept n o (outcome h)
   pub size : length (h .frames) ≡ frameNumbers
 
+-- the same where the code does not go on: it enters a letter's code, or the run is over
+pub record Entering (n : ℕ) (o : List ℕ) (r : Outcome) (h : Held) : Type 0 where
+  pub loop : Looping n o r h
+  pub between : h .machine .state ≡ 0 → ⊥
+
 -- the code goes on
 going : (h : Held) → h .machine .state ≡ 0 → outcome h ≡ continues (spotOf h)
 going h e = rw (eq-eqb _ _ e)
 
+-- it enters a letter's code
+entering : (h : Held) → h .machine .state ≡ 3 → outcome h ≡ enters (spotOf h)
+entering h e = rw e
+
+-- and goes on there
+abbrev pub resumed : Machine → Machine
+resumed m =
+    record {
+      letter = m .letter;
+      at = m .at;
+      height = m .height;
+      depth = m .depth;
+      taken = m .taken;
+      written = m .written;
+      left = m .left;
+      state = 0;
+    }
+
+abbrev pub resuming : Held → Held
+resuming h = onMachine (resumed (h .machine)) h
+
+pub resume : (n : ℕ) (o : List ℕ) (r : Outcome) (h : Held) → Looping n o r h → h .machine .state ≡ 3 → Looping n o r (resuming h)
+unfolding after
+resume n o r h loop e =
+    record {
+      comes = sym (ap (λ (t : Turn). after (decodeAt (h .cells) (h .used)) (standsAt (h .used)) t) (entering h e)) ∙ loop .comes;
+      kept = subst (λ (t : Turn). Kept n o t) (entering h e) (loop .kept);
+      size = loop .size;
+    }
+
 kept-of : (n : ℕ) (o : List ℕ) (g : ℕ) (t : Turn) → Sound n o g t → Kept n o t
 kept-of n o g (continues m) h = h .0
+kept-of n o g (enters m) h = h .0
 kept-of n o g (finishes (ended t s r)) h = h
 kept-of n o g (finishes (stopped k s r)) h = h
 
@@ -58,14 +98,34 @@ standing u e a s = go (ltb a maxLetters) refl
         let k : _≡_ {A = ℕ} 0 1 = cc in
         absurd (omega arith)
 
--- what falls: nothing is left once the state is not 0
+-- what falls: nothing is left once the run is over
+abbrev going-on : ℕ → Bool
+going-on k = cond (eqb k 0) true (eqb k 3)
+
 unfoldable pub leftOver : Machine → ℕ
-leftOver m = cond (eqb (m .state) 0) (suc (m .left + m .left + m .depth)) 0
+leftOver m = cond (going-on (m .state)) (suc (m .left + m .left + m .depth)) 0
+
+-- it is the same where a letter's code is entered and then gone on with
+pub left-resumed : (m : Machine) → m .state ≡ 3 → leftOver (resumed m) ≡ leftOver m
+unfolding leftOver
+left-resumed m e = rw e
 
 -- ── a turn ──────────────────────────────────────────────────────────────────────────────────────
 
-module _ (n : ℕ) (o : List ℕ) (r : Outcome) (h : Held) (h′ : Held) (loop : Looping n o r h) (goes : h .machine .state ≡ 0) (turned : outcome h′ ≡ turnOf h)
-    (letters : length (h .used) ≡ maxLetters) where
+module _ (n : ℕ) (o : List ℕ) (r : Outcome) (h : Held) (h′ : Held) (p : Fetched) (loop : Looping n o r h) (goes : h .machine .state ≡ 0)
+    (pair : p ≡ fetched (h .used) (h .machine .letter)) (turned-by : outcome h′ ≡ dueAt (h .cells) (p .base) (p .end) h)
+    (letters : length (h .used) ≡ maxLetters) (counted : Counted (h .used)) where
+  -- over the pair of the letter's table, it is the table machine's turn
+  turned : outcome h′ ≡ oneTurn (decodeAt (h .cells) (h .used)) (standsAt (h .used)) (spotOf h)
+  turned = turned-by ∙ ap (λ (x : Fetched). dueAt (h .cells) (x .base) (x .end) h) pair
+
+  -- the letter is the same where the code goes on, so the pair is its
+  pub same-pair : h′ .machine .state ≡ 0 → p ≡ fetched (h .used) (h′ .machine .letter)
+  same-pair e =
+      let d = decodeAt (h .cells) (h .used) (h .machine .letter) (h .machine .at) in
+      let k : h′ .machine .letter ≡ h .machine .letter = subst (λ (t : Turn). Stays (h .machine .letter) t) (sym turned ∙ going h′ e) (decoded-stays (standsAt (h .used)) d (spotOf h)) in
+      pair ∙ ap (fetched (h .used)) (sym k)
+
   comes-again : after (decodeAt (h .cells) (h .used)) (standsAt (h .used)) (outcome h′) ≡ r
   unfolding after
   comes-again =
@@ -76,7 +136,8 @@ module _ (n : ℕ) (o : List ℕ) (r : Outcome) (h : Held) (h′ : Held) (loop :
   sound : Sound n o (toGo (spotOf h)) (outcome h′)
   sound =
       subst (λ (t : Turn). Sound n o (toGo (spotOf h)) t) (sym turned)
-      (turn-sound n o (standsAt (h .used)) (standing (h .used) letters) (decodeAt (h .cells) (h .used)) (spotOf h) (fit-of n o h goes (loop .kept)))
+      (decoded-sound n o (standsAt (h .used)) (standing (h .used) letters) (decodeAt (h .cells) (h .used) (h .machine .letter) (h .machine .at)) (spotOf h)
+      (decode-within _ (counted (h .machine .letter)) (h .machine .at)) (fit-of n o h goes (loop .kept)))
 
   -- it is kept
   pub again : h′ .cells ≡ h .cells → h′ .used ≡ h .used → length (h′ .frames) ≡ frameNumbers → Looping n o r h′
@@ -90,18 +151,48 @@ module _ (n : ℕ) (o : List ℕ) (r : Outcome) (h : Held) (h′ : Held) (loop :
   -- and less is left
   pub falls : leftOver (h′ .machine) < leftOver (h .machine)
   unfolding leftOver
-  falls = rw (eq-eqb _ _ goes) (go (eqb (h′ .machine .state) 0) refl)
+  falls = rw (eq-eqb _ _ goes) (go (eqb (h′ .machine .state) 0) (eqb (h′ .machine .state) 3) refl refl)
     where
-      go : (u : Bool) → eqb (h′ .machine .state) 0 ≡ u
-          → cond u (suc (h′ .machine .left + h′ .machine .left + h′ .machine .depth)) 0 < suc (h .machine .left + h .machine .left + h .machine .depth)
-      go true q =
-          let k : toGo (spotOf h′) < toGo (spotOf h) = subst (λ (t : Turn). Sound n o (toGo (spotOf h)) t) (going h′ (eqb-true _ _ q)) sound .1 in
-          omega (arith, length-frames (h .frames) (h .machine .depth), length-frames (h′ .frames) (h′ .machine .depth))
-      go false q = omega arith
+      less : toGo (spotOf h′) < toGo (spotOf h)
+          → suc (h′ .machine .left + h′ .machine .left + h′ .machine .depth) < suc (h .machine .left + h .machine .left + h .machine .depth)
+      less k = omega (arith, length-frames (h .frames) (h .machine .depth), length-frames (h′ .frames) (h′ .machine .depth))
+
+      go : (u v : Bool) → eqb (h′ .machine .state) 0 ≡ u → eqb (h′ .machine .state) 3 ≡ v
+          → cond (cond u true v) (suc (h′ .machine .left + h′ .machine .left + h′ .machine .depth)) 0 < suc (h .machine .left + h .machine .left + h .machine .depth)
+      go true v q w = less (subst (λ (t : Turn). Sound n o (toGo (spotOf h)) t) (going h′ (eqb-true _ _ q)) sound .1)
+      go false true q w = less (subst (λ (t : Turn). Sound n o (toGo (spotOf h)) t) (entering h′ (eqb-true _ _ w)) sound .1)
+      go false false q w = omega arith
+
+-- ── the turns over one table ────────────────────────────────────────────────────────────────────
+
+-- from h₀ on, where the pair p was fetched: what was kept is kept, the pair is that of the letter, and less is left once the code does not go on
+pub record Stretch (h₀ : Held) (p : Fetched) (h : Held) : Type 0 where
+  pub keeps : (n : ℕ) (o : List ℕ) (r : Outcome) → Looping n o r h₀ → Looping n o r h
+  pub pair : h .machine .state ≡ 0 → p ≡ fetched (h .used) (h .machine .letter)
+  pub most : leftOver (h .machine) ≤ leftOver (h₀ .machine)
+  pub fewer : (h .machine .state ≡ 0 → ⊥) → leftOver (h .machine) < leftOver (h₀ .machine)
+
+-- at its start
+pub stretch-none : (h : Held) (p : Fetched) → h .machine .state ≡ 0 → p ≡ fetched (h .used) (h .machine .letter) → Stretch h p h
+stretch-none h p z e = record { keeps = λ n o r l. l; pair = λ _. e; most = le-refl _; fewer = λ w. absurd (w z) }
+
+-- and after one more turn
+pub stretch-more : (n : ℕ) (o : List ℕ) (r : Outcome) (h₀ : Held) (p : Fetched) (h h′ : Held) → Stretch h₀ p h → Looping n o r h → h .machine .state ≡ 0
+    → outcome h′ ≡ dueAt (h .cells) (p .base) (p .end) h → length (h .used) ≡ maxLetters → Counted (h .used)
+    → h′ .cells ≡ h .cells → h′ .used ≡ h .used → length (h′ .frames) ≡ frameNumbers → Stretch h₀ p h′
+stretch-more n o r h₀ p h h′ st loop z turned letters counted c u f =
+    let e = st .pair z in
+    let l = falls n o r h h′ p loop z e turned letters counted in
+    record {
+      keeps = λ n o r k. again n o r h h′ p (st .keeps n o r k) z e turned letters counted c u f;
+      pair = λ w. same-pair n o r h h′ p loop z e turned letters counted w ∙ ap (λ (x : List ℕ). fetched x (h′ .machine .letter)) (sym u);
+      most = omega (arith, l, st .most);
+      fewer = λ _. omega (arith, l, st .most);
+    }
 
 -- ── the end ─────────────────────────────────────────────────────────────────────────────────────
 
-module _ (n : ℕ) (o : List ℕ) (r : Outcome) (h : Held) (loop : Looping n o r h) (over : h .machine .state ≡ 0 → ⊥) where
+module _ (n : ℕ) (o : List ℕ) (r : Outcome) (h : Held) (loop : Looping n o r h) (over : h .machine .state ≡ 0 → ⊥) (outside : h .machine .state ≡ 3 → ⊥) where
   abbrev ending : Bool → Bool → Turn
   ending a b =
       cond a (finishes (ended true (stateOf h) (h .machine .left)))
@@ -109,7 +200,7 @@ module _ (n : ℕ) (o : List ℕ) (r : Outcome) (h : Held) (loop : Looping n o r
       (finishes (stopped (endingOf (h .machine .state)) (stateOf h) (h .machine .left))))
 
   ended-as : outcome h ≡ ending (eqb (h .machine .state) 1) (eqb (h .machine .state) 2)
-  ended-as = rw (ne-eqb _ _ over)
+  ended-as = rw (ne-eqb _ _ over, ne-eqb _ _ outside)
 
   kept-as : Kept n o (ending (eqb (h .machine .state) 1) (eqb (h .machine .state) 2))
   kept-as = subst (λ (t : Turn). Kept n o t) ended-as (loop .kept)

@@ -4,18 +4,21 @@ use mathlib.Core.Bool.{cond}
 use mathlib.Core.List.{List}
 use Prim.Native.Nat.{ℕ, _-_, _≤_, _<_}
 use lib.IntN.{ℤ}
-use lib.ListN.{length}
+use lib.ListN.{length, getD}
 use lib.Dec.{ltb, eqb}
 use Rattle.language.specs.declared.Ending.the-variants.{Damaged}
 use Rattle.language.specs.Answers.{endingNumber}
-use Rattle.language.specs.Limits.{maxLetters, maxHeight}
+use Rattle.language.specs.Limits.{maxLetters, maxCells, maxHeight}
 use Rattle.language.specs.Effects.{start}
 use Rattle.language.specs.Meaning.{Outcome}
 use Rattle.language.specs.Tables.{execute}
 use Rattle.book.specs.declared.Report.{Report}
 use Rattle.book.specs.Replies.{replied, reported}
 use Rattle.operands.specs.declared.Machine.{Machine}
-use Rattle.dispatch.specs.Turning.{Counted}
+
+-- no used-cell count is over 250
+abbrev pub Counted : List ℕ → Type 0
+Counted u = (a : ℕ) → getD u a 0 ≤ maxCells
 
 -- a run of the letter with index a can be made over the used-cell counts u and the list's places p
 pub record Startable (a : ℕ) (u : List ℕ) (p : List ℤ) : Type 0 where

@@ -1,6 +1,11 @@
 // The fetch and execute cycle: turns of the machine, from cell 2 of a letter until the run ends or stops.
 ghost use mathlib.Core.Path.{_≡_};
+ghost use Prim.Native.Nat.{_<_};
+ghost use Rattle.language.specs.Limits.{maxLetters};
+ghost use Rattle.operands.specs.Held.{held};
+ghost use Rattle.dispatch.specs.Turning.{Turned};
 ghost use Rattle.interpreter.specs.Runs.{Startable, Filling, Over, Driven, figuresOf, ran};
+ghost use Rattle.interpreter.specs.Fetching.{fetched, Obeying};
 use book::Report;
 use dispatch::machine::turn;
 use language::COUNTS;
@@ -11,6 +16,23 @@ use language::Table;
 use language::VARIABLES;
 use operands::FRAMES;
 use operands::Machine;
+
+// "the letter's used-cell count and its start in the store"
+pub struct Fetched {
+    pub base: usize,
+    pub end: usize,
+}
+
+// The one place where they are fetched.
+fn fetch(used: &[usize; LETTERS], letter: usize) -> Fetched
+    requires { ⌜ letter < maxLetters ⌝ }
+    ensures { λ r. ⌜ r ≡ fetched (now (used .entry)) letter ⌝ }
+{
+    Fetched {
+        base: letter * Table::CELLS,
+        end: used[letter],
+    }
+}
 
 // The operand stack as the caller's list.
 fn copy_out(list: &mut [i32], slots: &[i32; HEIGHT])
@@ -24,7 +46,43 @@ fn copy_out(list: &mut [i32], slots: &[i32; HEIGHT])
     }
 }
 
-// The loop: turns until the run has ended or stopped. The operand stack is the function's own until then.
+// A mark is obeyed, or a return made: "before every mark the fetched pair is the store's for the letter then obeyed".
+fn obey<'a>(
+    m: Machine,
+    cells: &'a [i32; STORE_CELLS],
+    used: &'a [usize; LETTERS],
+    t: Fetched,
+    inputs: &[i32],
+    frames: &mut [u32; FRAMES],
+    counts: &mut [u32; COUNTS],
+    vars: &mut [i32; VARIABLES],
+    list: &mut [i32; HEIGHT],
+    output: &mut [u8],
+) -> Machine
+    requires { ⌜ Obeying (now used) t m (now frames) (now output) ⌝ }
+    ensures { λ r. ⌜ Turned (t .base) (t .end)
+        (held m (now (cells .entry)) (now (used .entry)) (now (inputs .entry)) (now (frames .entry)) (now (counts .entry))
+        (now (vars .entry)) (now (list .entry)) (now (output .entry)))
+        (held r (now (cells .entry)) (now (used .entry)) (now (inputs .entry)) (now (frames .exit)) (now (counts .exit))
+        (now (vars .exit)) (now (list .exit)) (now (output .exit))) ⌝ }
+{
+    turn(
+        m,
+        cells,
+        used,
+        t.base,
+        t.end,
+        inputs,
+        frames,
+        counts,
+        vars,
+        list,
+        output,
+    )
+}
+
+// A run: whenever it enters a letter's code, when it starts, at a call and at a return, the letter's start and used-cell count are fetched; then marks are
+// obeyed until it enters another, ends or stops. The operand stack is the function's own until then.
 pub fn drive<'a>(
     cells: &'a [i32; STORE_CELLS],
     used: &'a [usize; LETTERS],
@@ -51,20 +109,25 @@ pub fn drive<'a>(
         taken: 0,
         written: 0,
         left: allowance,
-        state: Machine::GOES,
+        state: Machine::ENTERS,
     };
-    while m.state == Machine::GOES {
-        m = turn(
-            m,
-            cells,
-            used,
-            inputs,
-            &mut frames,
-            &mut counts,
-            vars,
-            &mut slots,
-            output,
-        );
+    while m.state == Machine::ENTERS {
+        let t = fetch(used, m.letter);
+        m.state = Machine::GOES;
+        while m.state == Machine::GOES {
+            m = obey(
+                m,
+                cells,
+                used,
+                t,
+                inputs,
+                &mut frames,
+                &mut counts,
+                vars,
+                &mut slots,
+                output,
+            );
+        }
     }
     copy_out(list, &slots);
     m

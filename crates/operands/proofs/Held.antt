@@ -15,7 +15,7 @@ use Rattle.language.specs.Answers.{endingNumber}
 use Rattle.language.specs.Lookup.{lookup}
 use Rattle.language.specs.Effects.{State}
 use Rattle.language.specs.Machine.{pick}
-use Rattle.operands.specs.Loop.{Spot, spot, continues, back}
+use Rattle.operands.specs.Loop.{Spot, spot, enters, back}
 use Rattle.operands.specs.Held.{frameAt, framesOf, stopEndings, endingOf, turned}
 
 less-one : (r : ℕ) → suc r - 1 ≡ r
@@ -41,9 +41,9 @@ leave-none (suc zero) m a d h k e = rw e
 leave-none (suc (suc zero)) m a d h k e = rw e
 leave-none (suc (suc (suc t))) m a d h k e = absurd (omega arith)
 
--- an open call goes on
+-- an open call is gone back to
 pub leave-some : (t : ℕ) (a : List ℕ) (d : ℕ) (s : State) (r : ℕ) → 1 ≤ t → t ≤ 2 → 0 < d
-    → continues (spot (getD a (3 * (d - 1)) 0) (getD a (3 * (d - 1) + t) 0) (framesOf a (d - 1)) s r) ≡ back (framesOf a d) (eqb t 1) s r
+    → enters (spot (getD a (3 * (d - 1)) 0) (getD a (3 * (d - 1) + t) 0) (framesOf a (d - 1)) s r) ≡ back (framesOf a d) (eqb t 1) s r
 unfolding pick
 leave-some zero a d s r h k e = absurd (omega arith)
 leave-some (suc zero) a d s r h k e = rw (frames-pop a d)

@@ -117,6 +117,31 @@ pub decode-inside : (t : Table) (q : ℕ) → codeStart ≤ q → q + 2 ≤ t .u
 unfolding decode sound
 decode-inside t q h k = rw (le-leb 2 q h, le-leb q (t .used) (omega arith), ne-eqb q (t .used) (λ e. omega arith), ne-eqb (suc q) (t .used) (λ e. omega arith))
 
+-- such a cell that holds a code
+pub code-decoded : (t : Table) (q n : ℕ) → codeStart ≤ q → q + 2 ≤ t .used → cell t q ≡ negsuc n → decode t q ≡ mark t q (kind (suc n))
+unfolding early
+code-decoded t q n h k e = decode-inside t q h k ∙ ap (λ (z : ℤ). early t q z) e
+
+-- such a cell that holds a number below 2
+pub low-decoded : (t : Table) (q n : ℕ) → codeStart ≤ q → q + 2 ≤ t .used → cell t q ≡ pos n → n < 2 → decode t q ≡ damaged
+unfolding early sound
+low-decoded t q n h k e l =
+    let b : between 2 (t .used) n ≡ false = rw (lt-leb 2 n l) in
+    decode-inside t q h k ∙ ap (λ (z : ℤ). early t q z) e ∙ ap (λ (u : Bool). sound u (code (transfer n))) b
+
+-- its byte is that of what it holds
+pub byte-early : (t : Table) (q : ℕ) → codeStart ≤ q → q + 2 ≤ t .used → byteAt t q ≡ byteOf (cell t q)
+unfolding byteAt
+byte-early t q h k = rw (le-ltb q codeStart h, le-ltb (t .used) q (omega arith), le-ltb (t .used - q) 2 (omega arith))
+
+-- no later cell has one
+pub byte-late : (t : Table) (q : ℕ) → t .used < q + 2 → byteAt t q ≡ endByte
+unfolding byteAt
+byte-late t q h =
+    by-ltb q codeStart (λ u. cond u endByte (cond (ltb (t .used) q) endByte (cond (ltb (t .used - q) 2) endByte (byteOf (cell t q)))) ≡ endByte) (λ _. refl)
+    (λ _. by-ltb (t .used) q (λ u. cond u endByte (cond (ltb (t .used - q) 2) endByte (byteOf (cell t q))) ≡ endByte) (λ _. refl)
+    (λ k. rw (lt-ltb (t .used - q) 2 (omega arith))))
+
 -- a cell with a byte stands before the last two
 pub byte-inside : (t : Table) (q n : ℕ) → byteAt t q ≡ suc n → ((codeStart ≤ q) × (q + 2 ≤ t .used)) × (byteOf (cell t q) ≡ suc n)
 unfolding byteAt

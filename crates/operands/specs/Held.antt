@@ -14,7 +14,7 @@ use Rattle.language.specs.Effects.{State}
 use Rattle.language.specs.Meaning.{ended}
 use Rattle.language.specs.Machine.{Frame}
 use Rattle.operands.specs.declared.Machine.{Machine}
-use Rattle.operands.specs.Loop.{Spot, Turn, continues, finishes, halt}
+use Rattle.operands.specs.Loop.{Spot, Turn, continues, enters, finishes, halt}
 
 -- the machine's numbers; the store's cells and used-cell counts, and the inputs, which no turn changes; and what a turn can change
 pub record Held : Type 0 where
@@ -81,12 +81,14 @@ stopEndings = Spent ∷ ListEmpty ∷ ListFull ∷ Range ∷ ZeroDivisor ∷ NoI
 abbrev pub endingOf : ℕ → Ending
 endingOf n = lookup (map (λ e. (endingNumber e, e)) stopEndings) Finished n
 
--- what the machine's state k says of a turn that came to the spot m: 0, it goes on; 1 and 2, it has ended true, or false; else it was stopped
+-- what the machine's state k says of a turn that came to the spot m: 0, it goes on; 1 and 2, it has ended true, or false; 3, it enters a letter's code;
+-- else it was stopped
 abbrev pub turned : ℕ → Spot → Turn
 turned k m =
     cond (eqb k 0) (continues m)
     (cond (eqb k 1) (finishes (ended true (m .state) (m .left)))
-    (cond (eqb k 2) (finishes (ended false (m .state) (m .left))) (halt (endingOf k) m)))
+    (cond (eqb k 2) (finishes (ended false (m .state) (m .left)))
+    (cond (eqb k 3) (enters m) (halt (endingOf k) m))))
 
 -- what the turn came to after which the code holds this
 abbrev pub outcome : Held → Turn

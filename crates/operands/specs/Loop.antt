@@ -23,9 +23,9 @@ pub record Spot : Type 0 where
 abbrev pub spot : ℕ → ℕ → List Frame → State → ℕ → Spot
 spot l q fr s r = record { letter = l; cell = q; frames = fr; state = s; left = r }
 
--- a turn goes on, or finishes the run
+-- a turn goes on in the same letter's code, enters a letter's code by a call or a return, or finishes the run
 pub data Turn : Type 0 where
-  continues : Spot → Turn
+  continues enters : Spot → Turn
   finishes : Outcome → Turn
 
 -- the run stops, with the state and the steps that are left
@@ -35,7 +35,7 @@ halt e m = finishes (stopped e (m .state) (m .left))
 -- the code of a letter ends with truth t: "The return itself is none", a step
 abbrev pub back : List Frame → Bool → State → ℕ → Turn
 back [] t s r = finishes (ended t s r)
-back (f ∷ fr) t s r = continues (spot (f .letter) (pick t (f .next) (f .exit)) fr s r)
+back (f ∷ fr) t s r = enters (spot (f .letter) (pick t (f .next) (f .exit)) fr s r)
 
 -- a step to cell q with state s
 abbrev pub onward : ℕ → State → Spot → Turn
@@ -55,7 +55,7 @@ verdictTurn (stalls e) n f m = halt e m
 abbrev pub callTurn : Bool → ℕ → ℕ → ℕ → Spot → Turn
 callTurn u a n f m =
     onCall (present u) (length (m .frames)) (λ e. halt e m)
-    (λ _. continues (spot a codeStart (record { letter = m .letter; next = n; exit = f } ∷ m .frames) (m .state) (m .left - 1)))
+    (λ _. enters (spot a codeStart (record { letter = m .letter; next = n; exit = f } ∷ m .frames) (m .state) (m .left - 1)))
 
 -- where these letters stand
 module _ (stands : ℕ → Bool) where

@@ -7,7 +7,7 @@ use lib.IntN.{ℤ}
 use Rattle.language.specs.Syntax.{Operator, operator}
 use Rattle.language.specs.Effects.{State, Effect, pushed}
 use Rattle.language.specs.Machine.{Decoded, code, operateAt, Kind, mark, decode}
-use Rattle.language.specs.Tables.{tableFrom, tableAt, standsAt}
+use Rattle.language.specs.Tables.{tableFrom, standsAt}
 use Rattle.operands.specs.Loop.{Turn, back, effectTurn, decodedTurn}
 use Rattle.operands.specs.Held.{Held, stateOf, spotOf, outcome}
 
@@ -26,10 +26,6 @@ markAt c base end k h = decodedAs (mark (tableFrom c base end) (h .machine .at) 
 -- a turn at the due cell of that table, whatever it holds
 abbrev pub dueAt : List ℤ → ℕ → ℕ → Held → Turn
 dueAt c base end h = decodedAs (decode (tableFrom c base end) (h .machine .at)) h
-
--- a turn at the due cell of the letter's table
-abbrev pub turnOf : Held → Turn
-turnOf h = decodedAs (decode (tableAt (h .cells) (h .used) (h .machine .letter)) (h .machine .at)) h
 
 -- a turn at an operator's one cell
 abbrev pub operatorTurn : Operator → Held → Turn

@@ -14,7 +14,8 @@ pub mod cells;
 pub const FRAMES: usize = 3 * Table::CALLS;
 
 // The machine's numbers: the letter and the program counter, the stack's height, the open calls, the inputs taken, the bytes written, the steps
-// left of the allowance, and the state: it goes on, it has ended true or false, or it is the number of the ending that stopped the run.
+// left of the allowance, and the state: it goes on, it has ended true or false, it enters a letter's code, or it is the number of the ending that stopped
+// the run.
 pub struct Machine {
     pub letter: usize,
     pub at: usize,
@@ -34,7 +35,7 @@ pub fn wide(n: u32) -> usize
 }
 
 impl Machine {
-    // The run goes on. This state and the next two are no ending's number.
+    // The run goes on in the same letter's code. This state and the next three are no ending's number.
     pub const GOES: usize = 0;
 
     // The run has ended true.
@@ -42,6 +43,9 @@ impl Machine {
 
     // The run has ended false.
     pub const FALSE: usize = 2;
+
+    // The run enters a letter's code: it starts, or a call or a return was made. The letter's table is to be fetched.
+    pub const ENTERS: usize = 3;
 
     // The run stops: "A mark that stops a run changes nothing and is not counted."
     pub fn stop(self, ending: Ending) -> Machine
@@ -80,7 +84,7 @@ impl Machine {
         m.letter = wide(frames[3 * d]);
         m.at = wide(frames[3 * d + truth]);
         m.depth = d;
-        m.state = Machine::GOES;
+        m.state = Machine::ENTERS;
         m
     }
 }

@@ -20,7 +20,6 @@ use numerals::value_column;
 use numerals::write_bytes;
 use operands::Machine;
 use operands::cells::bounded;
-use operands::cells::print_byte;
 use operands::cells::prints;
 
 // The length of a print for which no table has room.
@@ -28,12 +27,12 @@ const TOO_LONG: usize = Table::CELLS + 1;
 
 // The bytes of a print.
 fn copy_cells(output: &mut [u8], to: usize, cells: &[i32; STORE_CELLS], from: usize, n: usize)
-    requires { ⌜ Copying (now output) to from n ⌝ }
+    requires { ⌜ Copying (now output) to (now cells) from n ⌝ }
     ensures { λ _. ⌜ now (output .exit) ≡ paste (now (output .entry)) to (printsFrom (now (cells .entry)) from n) n ⌝ }
 {
     let mut i: usize = 0;
     while i < n {
-        output[to + i] = print_byte(cells[from + i]);
+        output[to + i] = cells[from + i] as u8;
         i += 1;
     }
 }

@@ -1,4 +1,4 @@
--- `interpreter::cycle::drive` meets its contract. The loop comes to what the run comes to. The measure: steps left twice, and open calls.
+-- `interpreter::cycle::drive` meets its contract. The loops come to what the run comes to. The measure: steps left twice, and open calls.
 use mathlib.Core.Path.{refl, sym, ap, _∙_}
 use native.Mathlib.Omega.{arith}
 use lib.ListN.{length}
@@ -7,25 +7,34 @@ use Rattle.language.specs.Effects.{start}
 use Rattle.language.specs.Meaning.{Outcome}
 use Rattle.language.specs.Tables.{execute}
 use Rattle.language.proofs.EffectsLent.{lent-start}
-use Rattle.operands.specs.Held.{Held, held, framesOf}
+use Rattle.language.specs.Statements.{Lent}
+use Rattle.operands.specs.Held.{Held, held, stateOf, framesOf}
 use Rattle.operands.proofs.Held.{length-frames}
 use Rattle.interpreter.specs.Runs.{ran}
 use Rattle.interpreter.proofs.Loop.{after, runAt}
-use Rattle.interpreter.proofs.Runs.{Looping, fit-of, again, leftOver, falls, lent, driven}
+use Rattle.interpreter.proofs.Runs.{Looping, Entering, Stretch, fit-of, leftOver, left-resumed, resuming, resume, falls, stretch-none, stretch-more, lent, driven}
 use Rattle.interpreter.proofs.cycle.drive.Statement.{statement}
 use Rattle.interpreter.proofs.cycle.drive.Tie as tie
 
 abbrev Inv-loop : tie.InvT-loop
 Inv-loop cells used inputs letter allowance vars₀ list output₀ frames₀ counts₀ slots₀ m₀ vars output frames counts slots m =
-    Looping allowance output₀ (ran cells used letter allowance vars₀ inputs output₀) (held m cells used inputs frames counts vars slots output)
+    Entering allowance output₀ (ran cells used letter allowance vars₀ inputs output₀) (held m cells used inputs frames counts vars slots output)
 
 abbrev μ-loop : tie.MeasureT-loop
 μ-loop cells used inputs letter allowance vars₀ list output₀ frames₀ counts₀ slots₀ m₀ vars output frames counts slots m =
     leftOver m
 
--- what the function holds at the loop's head
-module _ (c : tie.At-loop Inv-loop μ-loop) where
-  abbrev s : tie.Start Inv-loop μ-loop
+abbrev Inv-loop2 : tie.InvT-loop2
+Inv-loop2 cells used inputs letter allowance vars₀ list output₀ frames₀ counts₀ slots₀ m₀ t vars output frames counts slots m =
+    Stretch (held m₀ cells used inputs frames₀ counts₀ vars₀ slots₀ output₀) t (held m cells used inputs frames counts vars slots output)
+
+abbrev μ-loop2 : tie.MeasureT-loop2
+μ-loop2 cells used inputs letter allowance vars₀ list output₀ frames₀ counts₀ slots₀ m₀ t vars output frames counts slots m =
+    leftOver m
+
+-- what the function holds at the outer loop's head
+module _ (c : tie.At-loop Inv-loop2 μ-loop2 Inv-loop μ-loop) where
+  abbrev s : tie.Start Inv-loop2 μ-loop2 Inv-loop μ-loop
   s = c .before .before
 
   abbrev H : Held
@@ -37,85 +46,128 @@ module _ (c : tie.At-loop Inv-loop μ-loop) where
       ran (now (s .args .cells)) (now (s .args .used)) (s .args .letter) (s .args .allowance) (now (s .args .vars)) (now (s .args .inputs))
       (now (s .args .output))
 
+-- at the inner loop's
+module _ (c : tie.At-loop2 Inv-loop2 μ-loop2 Inv-loop μ-loop) where
+  abbrev outer : tie.At-loop Inv-loop2 μ-loop2 Inv-loop μ-loop
+  outer = c .before .before .before .before
+
+  abbrev H₂ : Held
+  H₂ =
+      let a = s outer .args in
+      let l = c .loop2 in
+      held (l .m) (now (a .cells)) (now (a .used)) (now (a .inputs)) (l .frames) (l .counts) (l .vars) (l .slots) (l .output)
+
+  looping : Looping (s outer .args .allowance) (now (s outer .args .output)) (run outer) H₂
+  looping = c .loop2 .inv .keeps _ _ _ (resume _ _ _ (H outer) (outer .loop .inv .loop) (c .before .before .if1 .taken))
+
 -- and after a turn
-module _ (c : tie.After-turn Inv-loop μ-loop) where
+module _ (c : tie.After-obey Inv-loop2 μ-loop2 Inv-loop μ-loop) where
+  abbrev inner : tie.At-loop2 Inv-loop2 μ-loop2 Inv-loop μ-loop
+  inner = c .before .before .before .before .before .before .before .before
+
   abbrev H′ : Held
   H′ =
-      let s = c .before .before .before .before .before .before .before .before .before .before in
-      let t = c .turn in
-      held (t .result) (now (s .args .cells)) (now (s .args .used)) (now (s .args .inputs)) (t .last .1 .1 .1 .1 .0) (t .last .1 .1 .1 .1 .1 .0)
-      (t .last .1 .1 .1 .1 .1 .1 .0) (t .last .1 .1 .1 .1 .1 .1 .1 .0) (t .last .1 .1 .1 .1 .1 .1 .1 .1 .0)
+      let a = s (outer inner) .args in
+      let t = c .obey in
+      held (t .result) (now (a .cells)) (now (a .used)) (now (a .inputs)) (t .last .1 .1 .1 .1 .1 .0) (t .last .1 .1 .1 .1 .1 .1 .0)
+      (t .last .1 .1 .1 .1 .1 .1 .1 .0) (t .last .1 .1 .1 .1 .1 .1 .1 .1 .0) (t .last .1 .1 .1 .1 .1 .1 .1 .1 .1 .0)
 
-loop-holds : tie.Need-loop-holds Inv-loop μ-loop
+loop-holds : tie.Need-loop-holds Inv-loop2 μ-loop2 Inv-loop μ-loop
 unfolding execute after runAt framesOf start
 loop-holds c =
     let a = c .before .args in
     record {
-      comes = refl;
-      kept =
+      loop =
           record {
-            letter = c .before .pre .letter;
-            letters = tt;
-            calls = omega arith;
-            lent = lent-start (now (a .output)) (now (a .vars)) (now (a .inputs));
-            spent = omega arith;
+            comes = refl;
+            kept =
+                record {
+                  letter = c .before .pre .letter;
+                  cell = record { first = omega arith; final = omega arith };
+                  callers = tt;
+                  calls = omega arith;
+                  lent = lent-start (now (a .output)) (now (a .vars)) (now (a .inputs));
+                  spent = omega arith;
+                };
+            size = refl;
           };
-      size = refl;
+      between = λ e. omega (arith, e);
     }
 
-turn-requires : tie.Need-turn-requires Inv-loop μ-loop
-turn-requires c κs =
-    let s = c .before .before .before .before .before .before .before .before .before in
-    let l = c .before .before .before .before .before .before .before .loop in
-    let f = fit-of (s .args .allowance) (now (s .args .output)) (H (c .before .before .before .before .before .before .before)) (c .before .before .before .before .before .if1 .taken) (l .inv .kept) in
+fetch-requires : tie.Need-fetch-requires Inv-loop2 μ-loop2 Inv-loop μ-loop
+fetch-requires c κs =
+    let o = c .before .before in
+    fit-of (s o .args .allowance) (now (s o .args .output)) (resuming (H o)) refl (resume _ _ _ (H o) (o .loop .inv .loop) (c .if1 .taken) .kept) .letter
+
+loop2-holds : tie.Need-loop2-holds Inv-loop2 μ-loop2 Inv-loop μ-loop
+loop2-holds c = stretch-none (resuming (H (c .before .before .before))) (c .fetch .result) refl (c .fetch .ensures)
+
+loop-less : tie.Need-loop-less Inv-loop2 μ-loop2 Inv-loop μ-loop
+loop-less c = omega (arith, c .before .before .loop2 .inv .fewer (c .if2 .left), left-resumed (c .before .before .before .before .before .before .loop .m) (c .before .before .before .before .if1 .taken))
+
+loop-again : tie.Need-loop-again Inv-loop2 μ-loop2 Inv-loop μ-loop
+loop-again c = record { loop = looping (c .before .before); between = c .if2 .left }
+
+obey-requires : tie.Need-obey-requires Inv-loop2 μ-loop2 Inv-loop μ-loop
+obey-requires c κs =
+    let i = c .before .before .before .before .before .before .before in
+    let a = s (outer i) in
+    let f = fit-of (a .args .allowance) (now (a .args .output)) (H₂ i) (c .before .before .before .before .before .if2 .taken) (looping i .kept) in
+    let p = i .loop2 .inv .pair (c .before .before .before .before .before .if2 .taken) in
     record {
-      letter = f .letter;
-      height = f .lent .height;
-      depth = omega (arith, f .calls, length-frames (l .frames) (l .m .depth));
-      written = omega (arith, f .lent .written, f .lent .bytes);
-      size = l .inv .size;
-      counted = s .pre .counted;
+      turning =
+          rw p
+          (record {
+            placed = record { cells = omega (arith, f .letter); used = a .pre .counted (i .loop2 .m .letter) };
+            letter = f .letter;
+            first = f .cell .first;
+            cell = f .cell .final;
+            height = f .lent .height;
+            depth = omega (arith, f .calls, length-frames (i .loop2 .frames) (i .loop2 .m .depth));
+            written = omega (arith, f .lent .written, f .lent .bytes);
+            size = looping i .size;
+          });
+      pair = p;
     }
 
-loop-less : tie.Need-loop-less Inv-loop μ-loop
-loop-less c =
-    let s = c .before .before .before .before .before .before .before .before .before .before .before .before in
-    falls (s .args .allowance) (now (s .args .output)) (run (c .before .before .before .before .before .before .before .before .before .before)) (H (c .before .before .before .before .before .before .before .before .before .before)) (H′ (c .before .before)) (c .before .before .before .before .before .before .before .before .before .before .loop .inv) (c .before .before .before .before .before .before .before .before .if1 .taken) (c .before .before .turn .ensures .turns)
-    (s .pre .letters)
+loop2-less : tie.Need-loop2-less Inv-loop2 μ-loop2 Inv-loop μ-loop
+loop2-less c =
+    let i = c .before .before .before .before .before .before .before .before .before .before in
+    let a = s (outer i) in
+    falls (a .args .allowance) (now (a .args .output)) (run (outer i)) (H₂ i) (H′ (c .before .before)) _ (looping i) (c .before .before .before .before .before .before .before .before .if2 .taken) (i .loop2 .inv .pair (c .before .before .before .before .before .before .before .before .if2 .taken))
+    (c .before .before .obey .ensures .turns) (a .pre .letters) (a .pre .counted)
 
-loop-again : tie.Need-loop-again Inv-loop μ-loop
-loop-again c =
-    let s = c .before .before .before .before .before .before .before .before .before .before .before .before in
-    let t = c .before .before .turn .ensures in
-    again (s .args .allowance) (now (s .args .output)) (run (c .before .before .before .before .before .before .before .before .before .before)) (H (c .before .before .before .before .before .before .before .before .before .before)) (H′ (c .before .before)) (c .before .before .before .before .before .before .before .before .before .before .loop .inv) (c .before .before .before .before .before .before .before .before .if1 .taken) (t .turns) (s .pre .letters)
-    refl refl (t .size)
+loop2-again : tie.Need-loop2-again Inv-loop2 μ-loop2 Inv-loop μ-loop
+loop2-again c =
+    let i = c .before .before .before .before .before .before .before .before .before .before in
+    let a = s (outer i) in
+    stretch-more (a .args .allowance) (now (a .args .output)) (run (outer i)) (resuming (H (outer i))) _ (H₂ i) (H′ (c .before .before)) (i .loop2 .inv) (looping i)
+    (c .before .before .before .before .before .before .before .before .if2 .taken) (c .before .before .obey .ensures .turns) (a .pre .letters) (a .pre .counted) refl refl (c .before .before .obey .ensures .size)
 
-copy-out-requires : tie.Need-copy-out-requires Inv-loop μ-loop
-copy-out-requires c κs =
-    let s = c .before .before .before .before .before .before in
-    record {
-      places = s .pre .places;
-      slots = lent (s .args .allowance) (now (s .args .output)) (run (c .before .before .before .before)) (H (c .before .before .before .before)) (c .before .before .before .before .loop .inv) (c .before .before .if1 .left) .places;
-    }
+-- the run is over
+module _ (c : tie.Else1 Inv-loop2 μ-loop2 Inv-loop μ-loop) where
+  abbrev head : tie.At-loop Inv-loop2 μ-loop2 Inv-loop μ-loop
+  head = c .before .before
 
-same-length : tie.Need-same-length Inv-loop μ-loop
-same-length c =
-    let s = c .before .before .before .before .before .before .before .before in
-    ap length (c .before .copy-out .ensures)
-    ∙ lent (s .args .allowance) (now (s .args .output)) (run (c .before .before .before .before .before .before)) (H (c .before .before .before .before .before .before)) (c .before .before .before .before .before .before .loop .inv) (c .before .before .before .before .if1 .left) .places
-    ∙ sym (s .pre .places)
+  left-lent : Lent (now (s head .args .output)) (stateOf (H head))
+  left-lent = lent (s head .args .allowance) (now (s head .args .output)) (run head) (H head) (head .loop .inv .loop) (head .loop .inv .between) (c .if1 .left)
 
-same-length-2 : tie.Need-same-length-2 Inv-loop μ-loop
-same-length-2 c =
-    let s = c .before .before .before .before .before .before .before .before in
-    lent (s .args .allowance) (now (s .args .output)) (run (c .before .before .before .before .before .before)) (H (c .before .before .before .before .before .before)) (c .before .before .before .before .before .before .loop .inv) (c .before .before .before .before .if1 .left) .bytes
+copy-out-requires : tie.Need-copy-out-requires Inv-loop2 μ-loop2 Inv-loop μ-loop
+copy-out-requires c κs = record { places = s (head (c .before .before)) .pre .places; slots = left-lent (c .before .before) .places }
 
-returns : tie.Need-returns Inv-loop μ-loop
+same-length : tie.Need-same-length Inv-loop2 μ-loop2 Inv-loop μ-loop
+same-length c = ap length (c .before .copy-out .ensures) ∙ left-lent (c .before .before .before .before) .places ∙ sym (s (head (c .before .before .before .before)) .pre .places)
+
+same-length-2 : tie.Need-same-length-2 Inv-loop2 μ-loop2 Inv-loop μ-loop
+same-length-2 c = left-lent (c .before .before .before .before) .bytes
+
+returns : tie.Need-returns Inv-loop2 μ-loop2 Inv-loop μ-loop
 returns c =
-    let s = c .before .before .before .before .before .before .before .before in
+    let o = c .before .before .before .before .before .before in
     rw (c .before .copy-out .ensures)
-    (driven (s .args .allowance) (now (s .args .output)) (run (c .before .before .before .before .before .before)) (H (c .before .before .before .before .before .before)) (c .before .before .before .before .before .before .loop .inv) (c .before .before .before .before .if1 .left))
+    (driven (s o .args .allowance) (now (s o .args .output)) (run o) (H o) (o .loop .inv .loop) (o .loop .inv .between) (c .before .before .before .before .if1 .left))
 
 pub drive-spec : {M : Type 1} → statement M
 drive-spec =
-    tie.close (tie.spec Inv-loop μ-loop loop-holds turn-requires loop-less loop-again copy-out-requires same-length same-length-2 returns)
+    tie.close (tie.spec Inv-loop2 μ-loop2 Inv-loop μ-loop loop-holds fetch-requires loop2-holds loop-less loop-again obey-requires loop2-less loop2-again
+    copy-out-requires same-length same-length-2 returns)

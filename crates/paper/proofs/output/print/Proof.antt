@@ -94,6 +94,14 @@ returns-5 c = λ h.
     (reading (c .before .before .before .before .before .before .before) ∙ print-good _ _ _ _ _ (c .before .before .before .before .before .before .before .before .before .if1 .left) (c .before .before .before .before .before .before .if2 .left) (sym (c .before .before .before .before .before .prints .ensures) ∙ not-false _ (c .before .before .before .before .if3 .left)))
     (c .before .before .if4 .left) p)
 
+copy-cells-requires : tie.Need-copy-cells-requires
+copy-cells-requires c κs =
+    record {
+      room = omega arith;
+      cells = omega arith;
+      form = sym (c .before .before .before .before .before .prints .ensures) ∙ not-false _ (c .before .before .before .before .if3 .left);
+    }
+
 returns-6 : tie.Need-returns-6
 unfolding perform
 returns-6 c = λ h.
@@ -117,4 +125,4 @@ print-spec =
     tie.close (tie.spec (λ c. search needs) (λ c κs. search needs) returns (λ c. search needs) (λ c. search needs) (λ c. search needs)
     (λ c κs. search needs) (λ c. search needs) add-if2-2 (λ c κs. search needs) returns-2 (λ c. search needs) (λ c. search needs)
     (λ c κs. search needs) (λ c κs. search needs) returns-3 (λ c κs. search needs) returns-4 (λ c. search needs) (λ c κs. search needs) returns-5
-    (λ c κs. search needs) (λ c. search needs) (λ c. search needs) (λ c. search needs) (λ c κs. search needs) (λ c. search needs) returns-6)
+    copy-cells-requires (λ c. search needs) (λ c. search needs) (λ c. search needs) (λ c κs. search needs) (λ c. search needs) returns-6)
