@@ -6,13 +6,11 @@ use Prim.Native.Nat.{ℕ, zero, suc}
 use lib.Dec.{eqb}
 use lib.IntN.{ℤ}
 use Rattle.language.specs.declared.Ending.the-variants.{Spent}
-use Rattle.language.specs.Effects.{Effect, goes, stops, Verdict, answers, stalls, perform, ask, start}
-use Rattle.language.specs.Meaning.{Outcome}
 use Rattle.language.specs.Machine.{Instruction, transfer, fail, operateAt, testAt, callAt, Decoded, last, damaged, code, decode}
 use Rattle.language.specs.Tables.{tableFrom, decodeAt, standsAt, execute}
 use Rattle.operands.specs.Loop.{Spot, Turn, continues, enters, finishes, halt, instructionTurn, decodedTurn}
 use Rattle.interpreter.specs.declared.cycle.Fetched.{Fetched}
-use Rattle.interpreter.specs.Fetching.{fetched, Stand, Progress, next, over, turnBy, proceeds, turnedOn, course, comesTo, leaves, onTurn, goesOn}
+use Rattle.interpreter.specs.Fetching.{fetched, Progress, next, over, turnBy, proceeds, turnedOn, course, comesTo, leaves, onTurn, goesOn}
 use Rattle.interpreter.specs.Claims.{PairStored, GoOnAlike, AnswersRemain}
 use Rattle.interpreter.proofs.Loop.{runAt, after, turn-run, Stays, decoded-stays}
 

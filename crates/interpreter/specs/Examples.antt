@@ -9,8 +9,7 @@ use Rattle.language.specs.Answers.{endingNumber}
 use Rattle.language.specs.Effects.{start}
 use Rattle.language.specs.Meaning.{Outcome, ended, stopped}
 use Rattle.language.specs.Trials.{neg}
-use Rattle.operands.specs.Loop.{Spot, spot, Turn, continues, enters, finishes}
-use Rattle.interpreter.specs.declared.cycle.Fetched.{Fetched}
+use Rattle.operands.specs.Loop.{spot, Turn, continues, enters, finishes}
 use Rattle.interpreter.specs.Fetching.{Progress, next, over, course, startsAt, goesOn}
 
 -- letter a has the text `(b;)`, and letter b `(;)`

@@ -10,7 +10,7 @@ use Rattle.language.specs.Limits.{maxCells}
 use Rattle.language.specs.Layout.{codeStart}
 use Rattle.language.specs.Effects.{start}
 use Rattle.language.specs.Meaning.{Outcome}
-use Rattle.language.specs.Machine.{Decoded, last, damaged, code, Instruction, transfer, fail, operateAt, testAt, callAt, decode, arrive, run}
+use Rattle.language.specs.Machine.{Decoded, last, damaged, code, transfer, fail, operateAt, testAt, callAt, decode, arrive, run}
 use Rattle.language.specs.Tables.{tableFrom, decodeAt, standsAt}
 use Rattle.operands.specs.declared.Machine.{Machine}
 use Rattle.operands.specs.Loop.{Spot, spot, Turn, continues, enters, finishes, decodedTurn}

@@ -51,7 +51,7 @@ fn obey<'a>(
     m: Machine,
     cells: &'a [i32; STORE_CELLS],
     used: &'a [usize; LETTERS],
-    t: Fetched,
+    pair: Fetched,
     inputs: &[i32],
     frames: &mut [u32; FRAMES],
     counts: &mut [u32; COUNTS],
@@ -59,8 +59,8 @@ fn obey<'a>(
     list: &mut [i32; HEIGHT],
     output: &mut [u8],
 ) -> Machine
-    requires { ⌜ Obeying (now used) t m (now frames) (now output) ⌝ }
-    ensures { λ r. ⌜ Turned (t .base) (t .end)
+    requires { ⌜ Obeying (now used) pair m (now frames) (now output) ⌝ }
+    ensures { λ r. ⌜ Turned (pair .base) (pair .end)
         (held m (now (cells .entry)) (now (used .entry)) (now (inputs .entry)) (now (frames .entry)) (now (counts .entry))
         (now (vars .entry)) (now (list .entry)) (now (output .entry)))
         (held r (now (cells .entry)) (now (used .entry)) (now (inputs .entry)) (now (frames .exit)) (now (counts .exit))
@@ -70,8 +70,8 @@ fn obey<'a>(
         m,
         cells,
         used,
-        t.base,
-        t.end,
+        pair.base,
+        pair.end,
         inputs,
         frames,
         counts,
@@ -112,14 +112,14 @@ pub fn drive<'a>(
         state: Machine::ENTERS,
     };
     while m.state == Machine::ENTERS {
-        let t = fetch(used, m.letter);
+        let pair = fetch(used, m.letter);
         m.state = Machine::GOES;
         while m.state == Machine::GOES {
             m = obey(
                 m,
                 cells,
                 used,
-                t,
+                pair,
                 inputs,
                 &mut frames,
                 &mut counts,

@@ -143,7 +143,7 @@ byte-late t q h =
     (λ k. rw (lt-ltb (t .used - q) 2 (omega arith))))
 
 -- a cell with a byte stands before the last two
-pub byte-inside : (t : Table) (q n : ℕ) → byteAt t q ≡ suc n → ((codeStart ≤ q) × (q + 2 ≤ t .used)) × (byteOf (cell t q) ≡ suc n)
+byte-inside : (t : Table) (q n : ℕ) → byteAt t q ≡ suc n → ((codeStart ≤ q) × (q + 2 ≤ t .used)) × (byteOf (cell t q) ≡ suc n)
 unfolding byteAt
 byte-inside t q n e =
     by-ltb q codeStart (λ u. cond u 0 (cond (ltb (t .used) q) 0 (cond (ltb (t .used - q) 2) 0 (byteOf (cell t q)))) ≡ suc n → ((codeStart ≤ q) × (q + 2 ≤ t .used)) × (byteOf (cell t q) ≡ suc n))

@@ -12,10 +12,10 @@ use language::Table;
 use language::VARIABLES;
 
 // The byte that stands for a transfer. No mark has it, nor the next one.
-pub const TRANSFER: usize = 255;
+const TRANSFER: usize = 255;
 
 // The byte for what is neither a mark nor a transfer.
-pub const END: usize = 0;
+const END: usize = 0;
 
 // The highest number of a counter: "an n outside 1 to 9999".
 pub const MOST_LIMIT: u16 = 9999;
@@ -105,7 +105,7 @@ pub fn digit_at(cells: &[i32; STORE_CELLS], base: usize, end: usize, at: usize) 
 }
 
 // A byte of a print, 32 to 126 other than `'`, or 0.
-pub fn print_byte(x: i32) -> u8
+fn print_byte(x: i32) -> u8
     ensures { λ r. ⌜ r ≡ printOf x ⌝ }
 {
     if x < 32 {

@@ -20,7 +20,7 @@ use Rattle.language.specs.Letters.{firstLetter, lastLetter, isLetter, letterInd
 use Rattle.language.specs.Layout.{codeStart}
 use Rattle.language.specs.Syntax.{Operator, absolute, negate, add, subtract, multiply, divide, discard, copy, input, write, newline, operator, operatorByte, fetch, save, accessByte}
 use Rattle.language.specs.Syntax.{negative, null, equal, conditionByte, constantCode, printCode, counterCode}
-use Rattle.language.specs.Machine.{Decoded, damaged, code, operateAt, Kind, isNone, isOperator, isCall, cell, kind, mark, decode}
+use Rattle.language.specs.Machine.{Decoded, damaged, code, operateAt, Kind, isOperator, isCall, cell, kind, mark, decode}
 use Rattle.language.specs.Tables.{tableFrom}
 use Rattle.language.proofs.Ints.{fits32}
 use Rattle.operands.specs.Operands.{byteOf}
