@@ -11,4 +11,4 @@ courses-hold = (refl, (refl, (refl, (refl, (refl, (refl, (refl, tt)))))))
 
 pub stretches-hold : Hold stretches
 unfolding goesOn decode onCall pick start
-stretches-hold = (refl, (refl, (refl, (refl, (refl, tt)))))
+stretches-hold = (refl, (refl, (refl, (refl, (refl, (refl, tt))))))

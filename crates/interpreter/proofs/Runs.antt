@@ -18,7 +18,7 @@ use Rattle.language.specs.Tables.{decodeAt, standsAt}
 use Rattle.book.specs.Replies.{replied, reported}
 use Rattle.operands.specs.declared.Machine.{Machine}
 use Rattle.operands.specs.Loop.{Turn, continues, enters, finishes}
-use Rattle.operands.specs.Held.{Held, frameNumbers, stateOf, spotOf, endingOf, outcome, onMachine}
+use Rattle.operands.specs.Held.{Held, frameNumbers, stateOf, spotOf, endingOf, outcome, onMachine, withState}
 use Rattle.operands.specs.Turns.{dueAt}
 use Rattle.operands.proofs.Held.{length-frames, ending-known, ending-high}
 use Rattle.interpreter.specs.declared.cycle.Fetched.{Fetched}
@@ -47,21 +47,8 @@ entering : (h : Held) → h .machine .state ≡ 3 → outcome h ≡ enters (spot
 entering h e = rw e
 
 -- and goes on there
-abbrev pub resumed : Machine → Machine
-resumed m =
-    record {
-      letter = m .letter;
-      at = m .at;
-      height = m .height;
-      depth = m .depth;
-      taken = m .taken;
-      written = m .written;
-      left = m .left;
-      state = 0;
-    }
-
 abbrev pub resuming : Held → Held
-resuming h = onMachine (resumed (h .machine)) h
+resuming h = onMachine (withState (h .machine) 0) h
 
 pub resume : (n : ℕ) (o : List ℕ) (r : Outcome) (h : Held) → Looping n o r h → h .machine .state ≡ 3 → Looping n o r (resuming h)
 unfolding after
@@ -106,7 +93,7 @@ unfoldable pub leftOver : Machine → ℕ
 leftOver m = cond (going-on (m .state)) (suc (m .left + m .left + m .depth)) 0
 
 -- it is the same where a letter's code is entered and then gone on with
-pub left-resumed : (m : Machine) → m .state ≡ 3 → leftOver (resumed m) ≡ leftOver m
+pub left-resumed : (m : Machine) → m .state ≡ 3 → leftOver (withState m 0) ≡ leftOver m
 unfolding leftOver
 left-resumed m e = rw e
 

@@ -54,9 +54,9 @@ placed (finishes o) = outcome o
 abbrev pub from : List ℕ → ℕ → ℕ → ℕ → List ℕ
 from u base end q = placed (goesOn cells u (record { base = base; end = end }) 9 (spot 0 q [] (start [] [] []) 100))
 
--- The pair says which table is obeyed, whatever the store's counts are: a's to its last cell, where a return is due; a's at its call; a's with a count too
--- few, which is damage; b's in place of a's.
+-- The pair says which table is obeyed, whatever the store's counts are: a's to its last cell, where a return is due; a's at its last `)`, where one is due
+-- too; a's at its call; a's with a count too few, which is damage; b's in place of a's.
 abbrev pub stretches : List (List ℕ × List ℕ)
 stretches =
-    (from counts 0 6 4, 0 ∷ 6 ∷ []) ∷ (from [] 0 6 4, 0 ∷ 6 ∷ []) ∷ (from counts 0 6 2, 0 ∷ 2 ∷ []) ∷ (from counts 0 5 4, 29 ∷ 100 ∷ [])
+    (from counts 0 6 4, 0 ∷ 6 ∷ []) ∷ (from [] 0 6 4, 0 ∷ 6 ∷ []) ∷ (from counts 0 6 5, 0 ∷ 5 ∷ []) ∷ (from counts 0 6 2, 0 ∷ 2 ∷ []) ∷ (from counts 0 5 4, 29 ∷ 100 ∷ [])
     ∷ (from counts 250 4 2, 0 ∷ 4 ∷ []) ∷ []

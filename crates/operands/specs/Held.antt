@@ -134,9 +134,9 @@ writing m l o h = held m (h .cells) (h .used) (h .inputs) (h .frames) (h .counts
 
 -- ── the machine's numbers ───────────────────────────────────────────────────────────────────────
 
--- stopped by an ending
-abbrev pub stoppedAs : Machine → Ending → Machine
-stoppedAs m e =
+-- with another state
+abbrev pub withState : Machine → ℕ → Machine
+withState m k =
     record {
       letter = m .letter;
       at = m .at;
@@ -145,8 +145,12 @@ stoppedAs m e =
       taken = m .taken;
       written = m .written;
       left = m .left;
-      state = endingNumber e;
+      state = k;
     }
+
+-- stopped by an ending
+abbrev pub stoppedAs : Machine → Ending → Machine
+stoppedAs m e = withState m (endingNumber e)
 
 -- a step on, to cell q and height h
 abbrev pub stepped : Machine → ℕ → ℕ → Machine
