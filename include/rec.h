@@ -2,8 +2,8 @@
  * The REC engine for C and C++. Link with librec.a (pkg-config rec). docs/C.md is the guide, with a complete program.
  *
  * Every function returns for any text, letter, store contents, inputs, allowance and buffer contents. A function that answers with a number answers 0 or
- * a number of enum rec_number. A refused call (1 to 14, 30, 50, and 29 of rec_reach) leaves the store, the list, the output, the cells, the paper and the
- * marks as they were, and its figures are 0.
+ * a number of enum rec_number. A refused call (1 to 14, 30 to 32, 50, and 29 of rec_reach) leaves the store, the list, the output, the cells, the paper and
+ * the marks as they were, and its figures are 0.
  *
  * What the caller sees to, and nothing checks:
  *   pointers    Each points to as many elements as its type or the length after it says, aligned for their type. Where the length is 0 it may be null.
@@ -27,8 +27,8 @@ extern "C" {
 
 /* The version of this header and of the archive beside it. */
 #define REC_VERSION_MAJOR 1
-#define REC_VERSION_MINOR 3
-#define REC_VERSION "1.3"
+#define REC_VERSION_MINOR 4
+#define REC_VERSION "1.4"
 
 /* Document 01's limits. */
 #define REC_TEXT 256            /* bytes of a text */
@@ -41,9 +41,14 @@ extern "C" {
 #define REC_CALLS 100           /* calls within calls */
 #define REC_VALUE_MAX 999999999 /* values lie from -REC_VALUE_MAX to REC_VALUE_MAX */
 
+/* Document 02's bounds of a dividend; each figure is at least 0. */
+#define REC_POOL_MAX 999999999   /* cents of a pool */
+#define REC_RATE_MAX 1000        /* takeout, in tenths of a percent */
+#define REC_STAKES_MAX 999999999 /* winning one-unit stakes */
+
 /*
  * Document 01's and 02's numbers, and one of this library's own. 1 to 14 refuse a call, 20 to 29 end a run, 29 also refuses a reach, 30 refuses a fair
- * copy, 50 refuses a day.
+ * copy, 31 and 32 refuse a dividend, 50 refuses a day.
  */
 enum rec_number {
     REC_FINISHED = 0,       /* a run that finished; any other call accepted */
@@ -73,6 +78,8 @@ enum rec_number {
     REC_DAMAGED = 29,       /* the due cell, or a cell of the mark there, breaks the form that a table's cells have (document 01 lists the clauses); a
                                table that keeps the form is obeyed, whether or not a text links to it */
     REC_SHORT_PAPER = 30,   /* rec_fair_copy: the copy does not fit */
+    REC_BAD_POOL = 31,      /* rec_dividend: a figure outside its bounds */
+    REC_NO_WINNER = 32,     /* rec_dividend: stakes are 0 */
     REC_SHORT_OUTPUT = 50   /* rec_day: what the day prints does not all fit */
 };
 
@@ -105,6 +112,8 @@ static inline const char *rec_word(int32_t number) {
     case REC_DEEP_CALLS: return "deep calls";
     case REC_DAMAGED: return "damaged";
     case REC_SHORT_PAPER: return "short paper";
+    case REC_BAD_POOL: return "bad pool";
+    case REC_NO_WINNER: return "no winner";
     case REC_SHORT_OUTPUT: return "short output";
     default: return "?";
     }
@@ -198,6 +207,36 @@ int32_t rec_link(const uint8_t *text, size_t length, int32_t *cells, size_t room
  * paper stays as it was.
  */
 int32_t rec_fair_copy(const uint8_t *text, size_t length, uint8_t *paper, size_t room, size_t *written);
+
+/* ---- a pool ---- */
+
+/*
+ * What a pool pays, in cents, and with it where every cent of the pool goes. takeout is pool * rate / 1000 with the rest dropped, and net what remains;
+ * dividend is what one winning stake is paid, the greatest multiple of 10 that, times the stakes, is not above the net; payments are dividend * stakes,
+ * and breakage is what is left of the net, less than 10 for each stake. takeout + payments + breakage is the pool, and no figure is above it.
+ */
+typedef struct {
+    uint64_t takeout, net, dividend, payments, breakage;
+} rec_dividend_report;
+
+/* The archive's own function, with the five figures in that order; use the function after it. */
+uint32_t rec_dividend_figures(uint32_t pool, uint32_t rate, uint32_t stakes, uint64_t *figures);
+
+/*
+ * The win dividend of a pool in cents (0 to REC_POOL_MAX), the takeout in tenths of a percent (0 to REC_RATE_MAX) and the number of winning one-unit
+ * stakes (0 to REC_STAKES_MAX): 0, or REC_BAD_POOL where one of the three is above its bound, then REC_NO_WINNER where the stakes are 0; the figures of a
+ * refused pool are 0.
+ */
+static inline int32_t rec_dividend(uint32_t pool, uint32_t rate, uint32_t stakes, rec_dividend_report *report) {
+    uint64_t figures[5];
+    uint32_t number = rec_dividend_figures(pool, rate, stakes, figures);
+    report->takeout = figures[0];
+    report->net = figures[1];
+    report->dividend = figures[2];
+    report->payments = figures[3];
+    report->breakage = figures[4];
+    return (int32_t)number;
+}
 
 /* ---- a day at the desk ---- */
 

@@ -79,6 +79,7 @@ static size_t room = PAPER; /* of a fair copy */
 static int32_t number; /* of the last call */
 static rec_report report;
 static uint8_t reached[REC_LETTERS], missing[REC_LETTERS];
+static uint32_t pool = 1234567, rate = 150, stakes = 4560;
 
 static void fresh(void) { rec_fresh(&store); }
 static void check(void) { number = rec_check(text.bytes, text.length); }
@@ -104,6 +105,12 @@ static void run(void)
 }
 
 static void reach(void) { number = rec_reach(&store, letter, reached, missing); }
+
+static void dividend(void)
+{
+    static rec_dividend_report payout;
+    number = rec_dividend(pool, rate, stakes, &payout);
+}
 
 /* A day of two lines: the text under q, and a run of it; and a last line that is too long. */
 static void day(void)
@@ -147,11 +154,11 @@ static struct function {
     const char *name;
     void (*call)(void);
     size_t need;
-} functions[] = {{"rec_fresh", fresh, 0},    {"rec_check", check, 0},
-                 {"rec_link", link_text, 0}, {"rec_fair_copy", fair_copy, 0},
-                 {"rec_define", define, 0},  {"rec_withdraw", withdraw, 0},
-                 {"rec_run", run, 0},        {"rec_reach", reach, 0},
-                 {"rec_day", day, 0}};
+} functions[] = {{"rec_fresh", fresh, 0},       {"rec_check", check, 0},
+                 {"rec_link", link_text, 0},    {"rec_fair_copy", fair_copy, 0},
+                 {"rec_define", define, 0},     {"rec_withdraw", withdraw, 0},
+                 {"rec_run", run, 0},           {"rec_reach", reach, 0},
+                 {"rec_dividend", dividend, 0}, {"rec_day", day, 0}};
 enum { FUNCTIONS = sizeof functions / sizeof functions[0] };
 
 static void try(void (*call)(void))
@@ -322,6 +329,21 @@ static void reaches(void)
     expect(reach, 0);
 }
 
+/* Pools: paid, at every bound, above one, and without a winning stake. */
+static void dividends(void)
+{
+    expect(dividend, 0);
+    pool = REC_POOL_MAX;
+    stakes = REC_STAKES_MAX;
+    expect(dividend, 0);
+    rate = REC_RATE_MAX;
+    expect(dividend, 0);
+    stakes = UINT32_MAX;
+    expect(dividend, REC_BAD_POOL);
+    stakes = 0;
+    expect(dividend, REC_NO_WINNER);
+}
+
 /* Days: of a run that fills the list and prints, and of refused lines. */
 static void days(void)
 {
@@ -355,6 +377,7 @@ int main(void)
     deep_run();
     reaches();
     damaged_run();
+    dividends();
     days();
     random_texts();
     for (size_t i = 0; i < FUNCTIONS; i++)

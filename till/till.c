@@ -1,9 +1,10 @@
 /*
  * A till: checks texts, and shows where the first fault of a refused text is; or prints the fair copies of texts; or says which letters each letter
- * calls, and which of those have no text. `usage` says how it is called, and its exit status.
+ * calls, and which of those have no text; or works out what pools pay. `usage` says how it is called, and its exit status.
  */
 #include "rec.h"
 #include <errno.h>
+#include <inttypes.h>
 #include <stdio.h>
 #include <stdlib.h>
 #include <string.h>
@@ -18,6 +19,7 @@ static const char usage[] =
     "    till -r [FILE]   records, so that a text may hold any byte: a line with the length of the\n"
     "                     text in bytes, the text, a newline\n"
     "    till -c [FILE]   what each letter calls, see below\n"
+    "    till -d [FILE]   what pools pay, see below\n"
     "    till -h          prints this\n"
     "\n"
     "With -f before the rest (-f [FILE], -f -t FILE.., -f -r [FILE]) it prints instead a line with\n"
@@ -30,14 +32,20 @@ static const char usage[] =
     "and by calls of the letters called, itself included; and as missing those that have no text.\n"
     "A refused line changes nothing, and goes to standard error with its number and word.\n"
     "\n"
-    "Without FILE it reads standard input. Exit status: 0 every text links; 1 a text is refused,\n"
-    "or with -c a line is refused or a letter is missing; 2 a file cannot be read, records break\n"
-    "their form, the output cannot be written, wrong use.\n";
+    "With -d each line is a race: the pool in cents, the takeout in tenths of a percent, the number\n"
+    "of winning one-unit stakes; digits, with one blank between. For each it prints its number, the\n"
+    "answer and, in cents, takeout, net, dividend for one stake, payments and breakage. A refused\n"
+    "race has its word instead: 31 a figure is too large, 32 no stake has won; 14 the line has\n"
+    "another form, and stands below.\n"
+    "\n"
+    "Without FILE it reads standard input. Exit status: 0 no text, line or race is refused; 1 one is\n"
+    "refused, or with -c a letter is missing; 2 a file cannot be read, records break their form, the\n"
+    "output cannot be written, wrong use.\n";
 
-enum { LINKED, REFUSED, FAILED }; /* REFUSED: also where a letter is missing */
+enum { DONE, REFUSED, FAILED }; /* REFUSED: also where a letter is missing */
 
 /* The exit status: the worst of what has happened. */
-static int status = LINKED;
+static int status = DONE;
 
 /* Whether fair copies are printed, in place of numbers. */
 static int fair = 0;
@@ -154,6 +162,14 @@ static void report(FILE *out, size_t place, const uint8_t *text, size_t length, 
     show_fault(out, text, length, number);
 }
 
+/* Number and word of a refused line, and the line. */
+static void report_line(FILE *out, size_t place, const uint8_t *line, size_t length, int32_t number) {
+    struct view v = view_of(line, length, 0);
+    report_number(out, place, number);
+    putc('\n', out);
+    show_view(out, line, &v);
+}
+
 static void check(size_t place, const uint8_t *text, size_t length) {
     int32_t number = rec_check(text, length);
     if (number == REC_FINISHED) printf("%4zu %3d linked\n", place, (int)number);
@@ -238,6 +254,17 @@ static void read_bytes(const struct source *s, struct bytes *b, size_t most) {
     while (b->length < most && (c = next_byte(s)) != EOF) push(b, c);
 }
 
+/* The number that bytes `from` to `to` - 1 of a line are, or `most` where it is larger; false where there are none, or they are not all digits. */
+static int number_of(const struct bytes *line, size_t from, size_t to, size_t most, size_t *number) {
+    *number = 0;
+    for (size_t i = from; i < to; i++) {
+        if (line->at[i] < '0' || line->at[i] > '9') return 0;
+        size_t digit = (size_t)(line->at[i] - '0');
+        *number = *number > (most - digit) / 10 ? most : *number * 10 + digit;
+    }
+    return from < to;
+}
+
 /* ---- desk lines ---- */
 
 enum { WITHDRAW = 3, DEFINE = 4 }; /* `X`, blank, letter; `D`, blank, letter, blank */
@@ -270,20 +297,10 @@ static void take_lines(const struct source *s) {
     free(line.at);
 }
 
-/* The number that a line is; false where it is none, or too large. */
-static int number_of(const struct bytes *line, size_t *number) {
-    *number = 0;
-    for (size_t i = 0; i < line->length; i++) {
-        if (line->at[i] < '0' || line->at[i] > '9' || *number > (SIZE_MAX - 9) / 10) return 0;
-        *number = *number * 10 + (size_t)(line->at[i] - '0');
-    }
-    return line->length > 0;
-}
-
-/* What follows a record's length, which `text` holds: as many bytes, and a newline. */
+/* What follows a record's length, which `text` holds: as many bytes, and a newline. There are never SIZE_MAX bytes. */
 static int read_record(const struct source *s, struct bytes *text) {
     size_t length;
-    if (!number_of(text, &length)) return 0;
+    if (!number_of(text, 0, text->length, SIZE_MAX, &length) || length == SIZE_MAX) return 0;
     read_bytes(s, text, length);
     return text->length == length && next_byte(s) == '\n';
 }
@@ -341,16 +358,10 @@ static int32_t obey(rec_store *store, const struct bytes *line) {
 
 static int is_of_text(int32_t number) { return number >= REC_LONG_TEXT && number <= REC_MANY_COUNTERS; }
 
-/* A refused line: where its text is at fault, as of any text; else the line. */
-static void report_line(size_t place, const struct bytes *line, int32_t number) {
-    if (is_of_text(number)) {
-        report(stderr, place, line->at + DEFINE, line->length - DEFINE, number);
-    } else {
-        struct view v = view_of(line->at, line->length, 0);
-        report_number(stderr, place, number);
-        putc('\n', stderr);
-        show_view(stderr, line->at, &v);
-    }
+/* A refused desk line: where its text is at fault, as of any text; else the line. */
+static void report_desk_line(size_t place, const struct bytes *line, int32_t number) {
+    if (is_of_text(number)) report(stderr, place, line->at + DEFINE, line->length - DEFINE, number);
+    else report_line(stderr, place, line->at, line->length, number);
 }
 
 static void print_marked(const char *word, const uint8_t marks[REC_LETTERS]) {
@@ -380,10 +391,52 @@ static void take_calls(const struct source *s) {
     rec_fresh(&store);
     for (size_t place = 1; place <= LINES && read_line(s, &line); place++) {
         int32_t number = obey(&store, &line);
-        if (number != REC_FINISHED) report_line(place, &line, number);
+        if (number != REC_FINISHED) report_desk_line(place, &line, number);
     }
     free(line.at);
     if (!ferror(s->in)) print_calls(&store);
+}
+
+/* ---- what pools pay ---- */
+
+struct race {
+    uint32_t pool, rate, stakes;
+};
+
+/* The figure from byte `*from` of a line to a blank or the line's end, and in `*from` the byte after that; UINT32_MAX is outside all bounds. */
+static int next_figure(const struct bytes *line, size_t *from, uint32_t *figure) {
+    size_t to = *from, number;
+    while (to < line->length && line->at[to] != ' ') to++;
+    if (!number_of(line, *from, to, UINT32_MAX, &number)) return 0;
+    *figure = (uint32_t)number;
+    *from = to + 1;
+    return 1;
+}
+
+/* The race that a line is; false where the line has another form. */
+static int race_of(const struct bytes *line, struct race *r) {
+    size_t from = 0;
+    return next_figure(line, &from, &r->pool) && next_figure(line, &from, &r->rate) && next_figure(line, &from, &r->stakes) && from == line->length + 1;
+}
+
+static void print_race(size_t place, const struct race *r) {
+    rec_dividend_report d;
+    int32_t number = rec_dividend(r->pool, r->rate, r->stakes, &d);
+    if (number == REC_FINISHED)
+        printf("%4zu %3d takeout %" PRIu64 ", net %" PRIu64 ", dividend %" PRIu64 ", payments %" PRIu64 ", breakage %" PRIu64, place, (int)number,
+               d.takeout, d.net, d.dividend, d.payments, d.breakage);
+    else report_number(stdout, place, number);
+    putchar('\n');
+}
+
+static void take_races(const struct source *s) {
+    struct bytes line = {NULL, 0, 0};
+    struct race r;
+    for (size_t place = 1; read_line(s, &line); place++) {
+        if (race_of(&line, &r)) print_race(place, &r);
+        else report_line(stdout, place, line.at, line.length, REC_BAD_LINE);
+    }
+    free(line.at);
 }
 
 /* ---- use ---- */
@@ -411,6 +464,7 @@ int main(int argc, char **argv) {
     else if (strcmp(option, "-t") == 0 && count > 0) take_files(names, count);
     else if (strcmp(option, "-r") == 0 && count <= 1) take_from(names[0], take_records);
     else if (strcmp(option, "-c") == 0 && !fair && count <= 1) take_from(names[0], take_calls);
+    else if (strcmp(option, "-d") == 0 && !fair && count <= 1) take_from(names[0], take_races);
     else if (!options && count <= 1) take_from(names[0], take_lines);
     else wrong_use();
     if (fflush(stdout) != 0 || ferror(stdout) || fclose(stdout) != 0) complain("standard output", "cannot be written");

@@ -46,7 +46,7 @@ struct tally {
 };
 
 /* The numbers that each kind of call must give, up to MUST_END. It gives no other; 30
- * is a fair copy's, so none here gives it. */
+ * is a fair copy's, 31 and 32 a dividend's, so none here gives them. */
 struct must {
     uint8_t numbers[CALL_KINDS][REC_NUMBERS];
 };

@@ -122,3 +122,34 @@ int32_t engine_fair_copy(const uint8_t *text, size_t length, uint8_t *paper, siz
 {
     return rec_fair_copy(text, length, paper, room, written);
 }
+
+/* ---- a pool -------------------------------------------------------------- */
+
+bool engine_dividend(uint32_t pool, uint32_t rate, uint32_t stakes, struct payout *payout,
+                     uint32_t *number)
+{
+    static struct {
+        uint8_t before[BESIDE];
+        rec_dividend_report report;
+        uint8_t between[BESIDE];
+        uint64_t figures[5];
+        uint8_t behind[BESIDE];
+    } paid;
+    const rec_dividend_report *report = &paid.report;
+    uint32_t other;
+    bool good = true;
+    memset(&paid, MARK, sizeof paid);
+    *number = (uint32_t)rec_dividend(pool, rate, stakes, &paid.report);
+    other = rec_dividend_figures(pool, rate, stakes, paid.figures);
+    *payout = (struct payout){report->takeout, report->net, report->dividend, report->payments,
+                              report->breakage};
+    if (other != *number || memcmp(paid.figures, payout, sizeof paid.figures) != 0) {
+        puts("  rec_dividend and rec_dividend_figures differ");
+        good = false;
+    }
+    if (!stayed(paid.before) || !stayed(paid.between) || !stayed(paid.behind)) {
+        puts("  written beside the report or the figures");
+        good = false;
+    }
+    return good;
+}

@@ -56,4 +56,14 @@ int32_t engine_link(const uint8_t *text, size_t length, int32_t *cells, size_t r
 int32_t engine_fair_copy(const uint8_t *text, size_t length, uint8_t *paper, size_t room,
                          size_t *written);
 
+/* What a pool pays, in cents. */
+struct payout {
+    uint64_t takeout, net, dividend, payments, breakage;
+};
+
+/* By the header's function and by the archive's own. False: they differ, or one wrote
+ * beside what it was lent. */
+bool engine_dividend(uint32_t pool, uint32_t rate, uint32_t stakes, struct payout *payout,
+                     uint32_t *number);
+
 #endif

@@ -20,6 +20,8 @@ static struct {
     uint64_t guard_f;
     uint8_t missing[REC_LETTERS];
     uint64_t guard_g;
+    rec_dividend_report payout;
+    uint64_t guard_h;
 } lent;
 
 static const uint64_t guard = 0x5a5aa5a53c3cc3c3;
@@ -27,12 +29,12 @@ static const uint64_t guard = 0x5a5aa5a53c3cc3c3;
 static rec_store before; /* a store that a call must leave as it is */
 
 static void set_guards(void) {
-    lent.guard_a = lent.guard_b = lent.guard_c = lent.guard_d = lent.guard_e = lent.guard_f = lent.guard_g = guard;
+    lent.guard_a = lent.guard_b = lent.guard_c = lent.guard_d = lent.guard_e = lent.guard_f = lent.guard_g = lent.guard_h = guard;
 }
 
 static int guarded(void) {
     return lent.guard_a == guard && lent.guard_b == guard && lent.guard_c == guard && lent.guard_d == guard && lent.guard_e == guard &&
-           lent.guard_f == guard && lent.guard_g == guard;
+           lent.guard_f == guard && lent.guard_g == guard && lent.guard_h == guard;
 }
 
 static int32_t define(char letter, const char *text) { return rec_define(&lent.store, (uint8_t)letter, (const uint8_t *)text, strlen(text)); }
@@ -337,6 +339,84 @@ static void fair_copies(void) {
     }
 }
 
+/* ---- a pool ---- */
+
+/* A dividend with the report full of marks. */
+static int32_t dividend(uint32_t pool, uint32_t rate, uint32_t stakes) {
+    memset(&lent.payout, MARK, sizeof lent.payout);
+    return rec_dividend(pool, rate, stakes, &lent.payout);
+}
+
+static int pays(uint64_t takeout, uint64_t net, uint64_t each, uint64_t payments, uint64_t breakage) {
+    rec_dividend_report p = lent.payout;
+    return p.takeout == takeout && p.net == net && p.dividend == each && p.payments == payments && p.breakage == breakage;
+}
+
+static int refused_dividend(int32_t number, uint32_t pool, uint32_t rate, uint32_t stakes) {
+    return dividend(pool, rate, stakes) == number && pays(0, 0, 0, 0, 0);
+}
+
+/* The five figures are those of document 02, they add up, and none is above the pool. */
+static int settled(uint32_t pool, uint32_t rate, uint32_t stakes) {
+    const rec_dividend_report *p = &lent.payout;
+    if (dividend(pool, rate, stakes) != REC_FINISHED || p->takeout != (uint64_t)pool * rate / 1000 || p->net != pool - p->takeout) return 0;
+    if (p->dividend % 10 != 0 || p->payments != p->dividend * stakes || p->payments > p->net || (p->dividend + 10) * stakes <= p->net) return 0;
+    return p->net == p->payments + p->breakage && p->takeout + p->payments + p->breakage == pool && p->breakage < 10 * (uint64_t)stakes &&
+           p->takeout <= pool && p->net <= pool && p->dividend <= pool && p->payments <= pool && p->breakage <= pool;
+}
+
+/* Five figures, no two of them equal; the rest of the takeout dropped; a net that is just enough for another 10 cents, and one cent less. */
+static void dividends(void) {
+    HOLDS(dividend(1234567, 150, 4560) == REC_FINISHED && pays(185185, 1049382, 230, 1048800, 582));
+    HOLDS(dividend(999, 1, 1) == REC_FINISHED && pays(0, 999, 990, 990, 9));
+    HOLDS(dividend(1000, 1, 1) == REC_FINISHED && pays(1, 999, 990, 990, 9));
+    HOLDS(dividend(700, 0, 7) == REC_FINISHED && pays(0, 700, 100, 700, 0));
+    HOLDS(dividend(699, 0, 7) == REC_FINISHED && pays(0, 699, 90, 630, 69));
+    HOLDS(dividend(70, 0, 7) == REC_FINISHED && pays(0, 70, 10, 70, 0));
+    HOLDS(dividend(69, 0, 7) == REC_FINISHED && pays(0, 69, 0, 0, 69));
+    HOLDS(dividend(0, 150, 7) == REC_FINISHED && pays(0, 0, 0, 0, 0));
+}
+
+/* The archive's own function writes the same five figures, in the report's order, and nothing after them. */
+static void archive_figures(void) {
+    uint64_t five[6];
+    memset(five, MARK, sizeof five);
+    HOLDS(rec_dividend_figures(1234567, 150, 4560, five) == REC_FINISHED && dividend(1234567, 150, 4560) == REC_FINISHED);
+    HOLDS(pays(five[0], five[1], five[2], five[3], five[4]) && all_bytes(five + 5, sizeof *five, MARK));
+    memset(five, MARK, sizeof five);
+    HOLDS(rec_dividend_figures(1234567, 150, 0, five) == REC_NO_WINNER && all_bytes(five, 5 * sizeof *five, 0) && all_bytes(five + 5, sizeof *five, MARK));
+}
+
+/* Each bound at its last lawful figure, alone and together. */
+static void bounds_of_a_pool(void) {
+    static const uint32_t pools[] = {0, 1, 9, 10, 11, 999, 1000, 1001, 123456, 1234567, REC_POOL_MAX - 1, REC_POOL_MAX};
+    static const uint32_t rates[] = {0, 1, 150, 999, REC_RATE_MAX};
+    static const uint32_t stakes[] = {1, 2, 9, 10, 11, 4560, 99999999, 100000000, UINT32_MAX / 10 + 1, REC_STAKES_MAX - 1, REC_STAKES_MAX};
+    HOLDS(dividend(REC_POOL_MAX, 0, 1) == REC_FINISHED && pays(0, 999999999, 999999990, 999999990, 9));
+    HOLDS(dividend(REC_POOL_MAX, 999, 1) == REC_FINISHED && pays(998999999, 1000000, 1000000, 1000000, 0));
+    HOLDS(dividend(1234567, REC_RATE_MAX, 1) == REC_FINISHED && pays(1234567, 0, 0, 0, 0));
+    HOLDS(dividend(1234567, 150, REC_STAKES_MAX) == REC_FINISHED && pays(185185, 1049382, 0, 0, 1049382));
+    HOLDS(dividend(REC_POOL_MAX, REC_RATE_MAX, REC_STAKES_MAX) == REC_FINISHED && pays(999999999, 0, 0, 0, 0));
+    for (size_t i = 0; i < sizeof pools / sizeof *pools; i++)
+        for (size_t j = 0; j < sizeof rates / sizeof *rates; j++)
+            for (size_t k = 0; k < sizeof stakes / sizeof *stakes; k++) HOLDS(settled(pools[i], rates[j], stakes[k]));
+}
+
+/* Each figure above its bound, alone and without a winning stake; then no winning stake alone, also with the others at their bounds. */
+static void refused_dividends(void) {
+    static const uint32_t above[] = {REC_POOL_MAX + 1, INT32_MAX, (uint32_t)INT32_MAX + 1, UINT32_MAX}; /* every bound */
+    HOLDS(refused_dividend(REC_BAD_POOL, 1234567, REC_RATE_MAX + 1, 4560) && refused_dividend(REC_BAD_POOL, 1234567, REC_RATE_MAX + 1, 0));
+    HOLDS(refused_dividend(REC_BAD_POOL, 1234567, 150, REC_STAKES_MAX + 1));
+    for (size_t i = 0; i < sizeof above / sizeof *above; i++) {
+        HOLDS(refused_dividend(REC_BAD_POOL, above[i], 150, 4560) && refused_dividend(REC_BAD_POOL, above[i], 150, 0));
+        HOLDS(refused_dividend(REC_BAD_POOL, 1234567, above[i], 4560) && refused_dividend(REC_BAD_POOL, 1234567, above[i], 0));
+        HOLDS(refused_dividend(REC_BAD_POOL, 1234567, 150, above[i]) && refused_dividend(REC_BAD_POOL, above[i], above[i], above[i]));
+    }
+    HOLDS(refused_dividend(REC_NO_WINNER, 1234567, 150, 0) && refused_dividend(REC_NO_WINNER, 0, 0, 0));
+    HOLDS(refused_dividend(REC_NO_WINNER, REC_POOL_MAX, REC_RATE_MAX, 0));
+    HOLDS(dividend(1234567, 150, 4560) == REC_FINISHED && pays(185185, 1049382, 230, 1048800, 582));
+}
+
 /* ---- a day ---- */
 
 static int32_t day(const char *input, uint8_t *output, size_t room, size_t *written) {
@@ -381,6 +461,10 @@ int main(void) {
     refusals();
     links();
     fair_copies();
+    dividends();
+    archive_figures();
+    bounds_of_a_pool();
+    refused_dividends();
     days();
     HOLDS(guarded());
     printf("%d\n", claims);

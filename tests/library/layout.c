@@ -12,6 +12,7 @@ static void layout(void) {
     HOLDS(sizeof(((rec_store *)0)->used) == 8 * 26);
     HOLDS(sizeof(((rec_store *)0)->vars) == 4 * 10);
     HOLDS(sizeof(rec_report) == 40);
+    HOLDS(sizeof(rec_dividend_report) == 40);
 }
 
 static void version(void) {

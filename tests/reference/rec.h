@@ -1,5 +1,5 @@
-/* An independent implementation of document 01 and of U1 and U2 of document 02,
- * to compare the engine with.
+/* An independent implementation of document 01 and of U1, U2 and U4 of document
+ * 02, to compare the engine with.
  *
  * rec_read         reads a text: accepts it, or gives its first fault's number
  * rec_table        lays the text out as a code table of 250 cells
@@ -7,6 +7,7 @@
  * rec_book_*       the book: texts, obeyed by the nested meaning over the tree
  * rec_store_*      the store: code tables, obeyed cell by cell, damaged or not
  * rec_store_reach  which letters a letter may call, read from the tables (U2)
+ * rec_win_dividend what a pool pays its winners, by search and subtraction (U4)
  *
  * The two ways to run share no code beside the limits below. */
 #ifndef REFERENCE_H
@@ -26,7 +27,12 @@ enum {
     REC_LIST = 64,
     REC_CALLS = 100,
     REC_VALUE = 999999999,
-    REC_COLUMNS = 12
+    REC_COLUMNS = 12,
+    REC_POOL = 999999999,   /* cents */
+    REC_RATE = 1000,        /* tenths of a percent */
+    REC_WHOLE = 1000,       /* the rate that takes all */
+    REC_STAKES = 999999999,
+    REC_DIVIDEND_STEP = 10  /* cents */
 };
 
 enum rec_number {
@@ -56,7 +62,9 @@ enum rec_number {
     REC_DEEP_CALLS = 28,
     REC_DAMAGED = 29,
     REC_SHORT_PAPER = 30, /* document 02, U1 */
-    REC_NUMBERS = 31
+    REC_BAD_POOL = 31,    /* document 02, U4 */
+    REC_NO_WINNER = 32,
+    REC_NUMBERS = 33
 };
 
 /* The clauses of number 29, in the document's order. Only for statistics. */
@@ -155,6 +163,15 @@ struct rec_store {
     int32_t variables[REC_VARIABLES];
 };
 
+/* Figures of U4, in cents. */
+struct rec_payout {
+    uint64_t takeout;
+    uint64_t net;
+    uint64_t dividend; /* of one stake */
+    uint64_t payments; /* of all stakes */
+    uint64_t breakage;
+};
+
 uint32_t rec_read(const uint8_t *text, size_t length, struct rec_tree *tree);
 void rec_table(const struct rec_tree *tree, int32_t cells[REC_CELLS]);
 
@@ -187,5 +204,10 @@ struct rec_answer rec_store_run(const int32_t *cells, const size_t *used,
  * reached or not, cannot be read mark after mark to its end. */
 uint32_t rec_store_reach(const struct rec_store *store, uint8_t letter,
                          uint8_t reached[REC_LETTERS], uint8_t missing[REC_LETTERS]);
+
+/* 31 where a figure is outside its bounds, else 32 where there are no stakes, with
+ * all of the payout 0; else 0 with the payout. The three figures may be any. */
+uint32_t rec_win_dividend(uint32_t pool, uint32_t rate, uint32_t stakes,
+                          struct rec_payout *payout);
 
 #endif

@@ -1,7 +1,7 @@
 -- The examples of what C is handed, by computation.
 use mathlib.Core.Path.{refl}
 use Rattle.language.specs.Reading.{read}
-use Rattle.rec.specs.Examples.{LinksHold, LinkOfMore, FiguresHold}
+use Rattle.rec.specs.Examples.{LinksHold, LinkOfMore, FiguresHold, PayoutHolds}
 
 pub links-hold : LinksHold
 unfolding read
@@ -13,3 +13,6 @@ link-of-more = (refl, refl)
 
 pub figures-hold : FiguresHold
 figures-hold = (refl, refl)
+
+pub payout-holds : PayoutHolds
+payout-holds = refl

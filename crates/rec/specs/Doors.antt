@@ -10,6 +10,9 @@ use Rattle.language.specs.Answers.{refusalNumber}
 use Rattle.language.specs.Layout.{layout}
 use Rattle.language.specs.Limits.{maxCells}
 use Rattle.language.specs.Reading.{Reading, refused, accepted}
+use Rattle.dividend.specs.declared.Payout.{Payout}
+use Rattle.dividend.specs.declared.Settlement.{Settlement}
+use Rattle.dividend.specs.Dividend.{Settles, numberOf, payoutOf}
 use Rattle.book.specs.declared.Report.{Report}
 use Rattle.book.specs.Replies.{Answered}
 use Rattle.book.specs.Store.{Store}
@@ -63,3 +66,16 @@ pub record Copies (table places : List ℤ) (n : ℕ) : Type 0 where
   pub whole : length table ≡ maxCells
   pub of-table : n ≤ maxCells
   pub of-places : n ≤ length places
+
+-- ── a pool ──────────────────────────────────────────────────────────────────────────────────────
+
+-- "takeout, net, dividend, payments (dividend × stakes) and breakage"
+abbrev pub payoutFigures : Payout → List ℕ
+payoutFigures p = p .takeout ∷ p .net ∷ p .dividend ∷ p .payments ∷ p .breakage ∷ []
+
+-- the number n that is returned and the figures f are those of what comes of the pool
+pub record Tells (pool rate stakes n : ℕ) (f : List ℕ) : Type 0 where
+  pub settlement : Settlement
+  pub settles : Settles pool rate stakes settlement
+  pub number : n ≡ numberOf settlement
+  pub figures : f ≡ payoutFigures (payoutOf settlement)

@@ -7,7 +7,7 @@ use lib.IntN.{ℤ, pos}
 use lib.ListN.{replicate, take, drop}
 use Rattle.language.specs.Trials.{bytes}
 use Rattle.language.specs.Reading.{read}
-use Rattle.rec.specs.Doors.{figuresOf, Handed, hands, handed}
+use Rattle.rec.specs.Doors.{figuresOf, Handed, hands, handed, payoutFigures}
 
 -- so many places that hold 9
 abbrev pub nines : ℕ → List ℤ
@@ -46,3 +46,7 @@ abbrev pub FiguresHold : Type 0
 FiguresHold =
     (figuresOf (record { number = 20; truth = true; steps = 2; height = 3; taken = 4; written = 5 }) ≡ 1 ∷ 2 ∷ 3 ∷ 4 ∷ 5 ∷ [])
     × (figuresOf (record { number = 20; truth = false; steps = 2; height = 3; taken = 4; written = 5 }) ≡ 0 ∷ 2 ∷ 3 ∷ 4 ∷ 5 ∷ [])
+
+-- takeout, net, dividend, payments, breakage. proofs/Examples `payout-holds`
+abbrev pub PayoutHolds : Type 0
+PayoutHolds = payoutFigures (record { takeout = 1; net = 2; dividend = 3; payments = 4; breakage = 5 }) ≡ 1 ∷ 2 ∷ 3 ∷ 4 ∷ 5 ∷ []

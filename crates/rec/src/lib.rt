@@ -12,7 +12,7 @@ ghost use Rattle.book.specs.Store.{storeOf, freshStore, storeCall, told};
 ghost use Rattle.reach.specs.Reach.{reports, reach};
 ghost use Rattle.console.specs.Day.{dayOf};
 ghost use Rattle.day.specs.Played.{played};
-ghost use Rattle.rec.specs.Doors.{truthFigure, opens, opened, hands, handed, Copies};
+ghost use Rattle.rec.specs.Doors.{truthFigure, opens, opened, hands, handed, Copies, Tells};
 use language::LETTERS;
 use language::STORE_CELLS;
 use language::Table;
@@ -20,6 +20,9 @@ use language::VARIABLES;
 
 // The figures of a run beside its number.
 const FIGURES: usize = 5;
+
+// The figures of a pool that is paid out.
+const PAYOUT_FIGURES: usize = 5;
 
 // ── a store of lent arrays ──────────────────────────────────────────────────────────────────────
 
@@ -177,6 +180,24 @@ pub extern "C" fn rec_fair_copy(text: &[u8], paper: &mut [u8], written: &mut usi
     let c = faircopy::fair_copy(text, paper);
     *written = c.length();
     c.number()
+}
+
+// ── a pool ──────────────────────────────────────────────────────────────────────────────────────
+
+// What a pool pays: 0, and takeout, net, dividend, payments and breakage. Where it is refused, its number and five zeros.
+#[no_mangle]
+pub extern "C" fn rec_dividend_figures(
+    pool: u32,
+    rate: u32,
+    stakes: u32,
+    figures: &mut [u64; PAYOUT_FIGURES],
+) -> u32
+    ensures { λ r. ⌜ Tells pool rate stakes r (now (figures .exit)) ⌝ }
+{
+    let settlement = dividend::settle(pool, rate, stakes);
+    let p = settlement.payout();
+    *figures = [p.takeout, p.net, p.dividend, p.payments, p.breakage];
+    settlement.number()
 }
 
 // ── a day ───────────────────────────────────────────────────────────────────────────────────────

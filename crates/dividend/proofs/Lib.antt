@@ -1,0 +1,4 @@
+pub mod Laws
+pub mod Settled
+pub mod Claims
+pub mod Examples

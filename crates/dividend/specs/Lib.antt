@@ -1,0 +1,3 @@
+pub mod Dividend
+pub mod Claims
+pub mod Examples
