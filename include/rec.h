@@ -1,9 +1,9 @@
 /*
  * The REC engine for C and C++. Link with librec.a (pkg-config rec). docs/C.md is the guide, with a complete program.
  *
- * Every function returns for any text, letter, store contents, inputs, allowance and buffer contents. A function that answers with a number answers 0 or
- * a number of enum rec_number. A refused call (1 to 14, 30 to 32, 50, and 29 of rec_reach) leaves the store, the list, the output, the cells, the paper and
- * the marks as they were, and its figures are 0.
+ * Every function returns for any text, letter, store contents, inputs, allowance, pool and buffer contents. A function that answers with a number answers
+ * 0 or a number of enum rec_number. A refused call (1 to 14, 30 to 32, 50, and 29 of rec_reach) leaves the store, the list, the output, the cells, the
+ * paper and the marks as they were, and its figures are 0.
  *
  * What the caller sees to, and nothing checks:
  *   pointers    Each points to as many elements as its type or the length after it says, aligned for their type. Where the length is 0 it may be null.

@@ -32,11 +32,11 @@ static const char usage[] =
     "and by calls of the letters called, itself included; and as missing those that have no text.\n"
     "A refused line changes nothing, and goes to standard error with its number and word.\n"
     "\n"
-    "With -d each line is a race: the pool in cents, the takeout in tenths of a percent, the number\n"
-    "of winning one-unit stakes; digits, with one blank between. For each it prints its number, the\n"
-    "answer and, in cents, takeout, net, dividend for one stake, payments and breakage. A refused\n"
-    "race has its word instead: 31 a figure is too large, 32 no stake has won; 14 the line has\n"
-    "another form, and stands below.\n"
+    "With -d each line is a race: the pool in cents, the rate of the takeout in tenths of a percent,\n"
+    "the number of winning one-unit stakes; digits, with one blank between. For each it prints its\n"
+    "number, the answer and, in cents, takeout, net, dividend for one stake, payments and breakage.\n"
+    "A refused race has its word instead: 31 a figure is too large, 32 no stake has won; 14 the\n"
+    "line has another form, and stands below.\n"
     "\n"
     "Without FILE it reads standard input. Exit status: 0 no text, line or race is refused; 1 one is\n"
     "refused, or with -c a letter is missing; 2 a file cannot be read, records break their form, the\n"
@@ -230,7 +230,7 @@ static void push(struct bytes *b, int c) {
         size_t room = b->room * 2 + 1024;
         uint8_t *at = (uint8_t *)realloc(b->at, room);
         if (at == NULL) {
-            complain("a text", "out of memory");
+            complain("a text or line", "out of memory");
             exit(status);
         }
         b->at = at;

@@ -234,17 +234,9 @@ bool numbers_met(const struct tally *tally, const struct must *must, unsigned lo
     static const char *const words[CALL_KINDS] = {"define", "withdraw", "run"};
     bool good = true;
     for (size_t kind = 0; kind < CALL_KINDS; kind++)
-        for (uint32_t i = 0; i < REC_NUMBERS; i++) {
-            unsigned long long times = tally->numbers[kind][i];
-            if (is_listed(must->numbers[kind], i)) {
-                good &= met(times, least, "%s: number %u (%s)", words[kind], (unsigned)i,
-                            number_word(i));
-            } else if (times > 0) {
-                printf("%s: number %u (%s) can not come here, but came %llu times\n",
-                       words[kind], (unsigned)i, number_word(i), times);
-                good = false;
-            }
-        }
+        for (uint32_t i = 0; i < REC_NUMBERS; i++)
+            good &= number_met(is_listed(must->numbers[kind], i), i, tally->numbers[kind][i],
+                               least, words[kind]);
     return good;
 }
 

@@ -91,12 +91,8 @@ static bool numbers_met(unsigned long long least)
 {
     bool good = true;
     for (uint32_t i = 0; i < REC_NUMBERS; i++)
-        if (i == REC_FINISHED || i == REC_BAD_POOL || i == REC_NO_WINNER) {
-            good &= met(numbers[i], least, "number %u (%s)", (unsigned)i, number_word(i));
-        } else if (numbers[i] > 0) {
-            printf("number %u (%s) can not come, but came\n", (unsigned)i, number_word(i));
-            good = false;
-        }
+        good &= number_met(i == REC_FINISHED || i == REC_BAD_POOL || i == REC_NO_WINNER, i,
+                           numbers[i], least, "dividend");
     return good;
 }
 
@@ -253,7 +249,7 @@ static bool paid_as_said(struct asked a, const struct payout *p)
     good &= holds(p->net + p->takeout == pool, "the net is what remains");
     good &= holds(p->dividend % STEP == 0, "the dividend is a multiple of 10");
     good &= holds(p->dividend * stakes <= p->net, "dividend * stakes is not above the net");
-    good &= holds(p->net < p->payments + STEP * stakes, "no greater dividend is");
+    good &= holds(p->net < p->payments + STEP * stakes, "no greater dividend is within the net");
     good &= holds(p->payments == p->dividend * stakes, "payments are dividend * stakes");
     good &= holds(p->breakage + p->payments == p->net, "breakage is the net less payments");
     return good & holds(p->takeout + p->payments + p->breakage == pool,
@@ -416,8 +412,8 @@ static bool by_hand(void)
         {{999999999, 0, 99999999}, {0, 999999999, 10, 999999990, 9}},
         {{999999999, 0, 100000000}, {0, 999999999, 0, 0, 999999999}},
         {{999999999, 0, 999999999}, {0, 999999999, 0, 0, 999999999}},
-        /* pool * rate is one below, at and past 2^32; 10 * stakes is 6 below and 4 past */
-        {{613566756, 7, 1}, {4294967, 609271789, 609271780, 609271780, 9}},
+        /* pool * rate is 1 and 296 below 2^32, at it and past it; 10 * stakes is 6 below and 4 past */
+        {{16843009, 255, 1}, {4294967, 12548042, 12548040, 12548040, 2}},
         {{4294967, 1000, 1}, {4294967, 0, 0, 0, 0}},
         {{8388608, 512, 1}, {4294967, 4093641, 4093640, 4093640, 1}},
         {{4294968, 1000, 1}, {4294968, 0, 0, 0, 0}},

@@ -192,13 +192,8 @@ static bool copies_met(unsigned long long least)
 {
     bool good = true;
     for (uint32_t i = 0; i < REC_NUMBERS; i++)
-        if ((i < LAST && i != REC_NO_SUCH_LETTER) || i == REC_SHORT_PAPER) {
-            good &= met(copies[i], least, "fair copy: number %u (%s)", (unsigned)i, number_word(i));
-        } else if (copies[i] > 0) {
-            printf("fair copy: number %u (%s) can not come, but came\n", (unsigned)i,
-                   number_word(i));
-            good = false;
-        }
+        good &= number_met((i < LAST && i != REC_NO_SUCH_LETTER) || i == REC_SHORT_PAPER, i,
+                           copies[i], least, "fair copy");
     return good & papers_met(least);
 }
 

@@ -79,14 +79,7 @@ static bool reach_numbers_met(unsigned long long least)
         for (uint32_t n = 0; n < REC_NUMBERS; n++) {
             bool always = n == REC_FINISHED || n == REC_NO_SUCH_LETTER || n == REC_NOT_STANDING;
             bool damage = n == REC_BAD_STORE || n == REC_DAMAGED;
-            if (always || (damage && i == CHANGED)) {
-                good &= met(numbers[i][n], least, "%s: number %u (%s)", words[i], (unsigned)n,
-                            number_word(n));
-            } else if (numbers[i][n] > 0) {
-                printf("%s: number %u (%s) can not come here, but came %llu times\n", words[i],
-                       (unsigned)n, number_word(n), numbers[i][n]);
-                good = false;
-            }
+            good &= number_met(always || (damage && i == CHANGED), n, numbers[i][n], least, words[i]);
         }
     return good;
 }

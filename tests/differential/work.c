@@ -101,6 +101,18 @@ bool met(unsigned long long times, unsigned long long least, const char *form, .
     return times >= least;
 }
 
+bool number_met(bool due, uint32_t number, unsigned long long times, unsigned long long least,
+                const char *what)
+{
+    if (due)
+        return met(times, least, "%s: number %u (%s)", what, (unsigned)number,
+                   number_word(number));
+    if (times > 0)
+        printf("%s: number %u (%s) can not come here, but came %llu times\n", what,
+               (unsigned)number, number_word(number), times);
+    return times == 0;
+}
+
 const char *number_word(uint32_t number)
 {
     static const char *const words[] = {

@@ -27,6 +27,11 @@ int work(const struct work *work, int count, char **words);
  * directed cases only the latter. */
 bool met(unsigned long long times, unsigned long long least, const char *form, ...);
 
+/* Of the calls that `what` names, how often this number came: `least` times where it
+ * is due, and else never. */
+bool number_met(bool due, uint32_t number, unsigned long long times, unsigned long long least,
+                const char *what);
+
 /* The documents' word of a number. */
 const char *number_word(uint32_t number);
 

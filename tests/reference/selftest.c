@@ -1933,7 +1933,7 @@ static void reach_by_hand(void)
 /* The bounds once more, so that those of rec.h are tried too. */
 enum { MOST_POOL = 999999999, MOST_RATE = 1000, MOST_STAKES = 999999999 };
 
-/* What three figures may have for a payout to meet. */
+/* Cases that the payouts tried must have met. */
 enum turn {
     POOL_AT_BOUND, RATE_AT_BOUND, STAKES_AT_BOUND, POOL_OVER_BOUND, RATE_OVER_BOUND,
     STAKES_OVER_BOUND, POOL_BEFORE_32, RATE_BEFORE_32, EMPTY_POOL, NOTHING_TAKEN, ALL_TAKEN,

@@ -4,7 +4,6 @@ use mathlib.Core.Bool.{true≢false}
 use Prim.Native.Nat.{ℕ, _*_, _-_}
 use native.Mathlib.Omega.{arith}
 use Rattle.dividend.specs.declared.Payout.{Payout}
-use Rattle.dividend.specs.declared.Settlement.{Settlement}
 use Rattle.dividend.specs.declared.Settlement.the-variants.{Pays, BadPool, NoWinner}
 use Rattle.dividend.specs.Dividend.{netOf, IsDividend, PaysOut}
 use Rattle.dividend.specs.Claims.{DividendExists, NoStakeNoDividend, DividendUnique, DividendReturned, AddsUp, BreakageBelow, WithinPool, SettlementExists, SettlementUnique}

@@ -1,11 +1,11 @@
 -- Document 02, U4: what is proved of every pool, each statement with the name of its proof.
 use mathlib.Core.Path.{_≡_}
-use mathlib.Core.Bool.{true, false}
+use mathlib.Core.Bool.{true}
 use Prim.Native.Nat.{ℕ, _+_, _*_, _≤_, _<_}
 use Rattle.dividend.specs.declared.Payout.{Payout}
 use Rattle.dividend.specs.declared.Settlement.{Settlement}
 use Rattle.dividend.specs.declared.Settlement.the-variants.{Pays}
-use Rattle.dividend.specs.Dividend.{inBounds, netOf, dividendStep, IsDividend, Settles, numberOf}
+use Rattle.dividend.specs.Dividend.{inBounds, netOf, dividendStep, IsDividend, Settles}
 
 -- ── the dividend ────────────────────────────────────────────────────────────────────────────────
 

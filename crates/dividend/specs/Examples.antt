@@ -21,11 +21,12 @@ race p r s x = record { pool = p; rate = r; stakes = s; settlement = x }
 abbrev pub paid : ℕ → ℕ → ℕ → ℕ → ℕ → Settlement
 paid t n d p b = Pays (record { takeout = t; net = n; dividend = d; payments = p; breakage = b })
 
--- A race as the manual has it; each rest dropped, and none to drop; a dividend that just is not above the net, and one cent less; a net too small for its
+-- Races as the manual and the page for C have them; each rest dropped, and none to drop; a dividend that just is not above the net, and one cent less; a net too small for its
 -- stakes; nothing taken out, and all; the ends of the bounds; each figure outside, stakes of 0, and both.
 abbrev pub races : List Race
 races =
-    race 1234567 150 4560 (paid 185185 1049382 230 1048800 582)
+    race 1234500 175 4560 (paid 216037 1018463 220 1003200 15263)
+    ∷ race 1234567 150 4560 (paid 185185 1049382 230 1048800 582)
     ∷ race 1999 1 1 (paid 1 1998 1990 1990 8)
     ∷ race 2000 1 1 (paid 2 1998 1990 1990 8)
     ∷ race 1000 100 3 (paid 100 900 300 900 0)

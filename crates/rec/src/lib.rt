@@ -1,4 +1,5 @@
-// The C library: every `extern "C"` function of the product. include/rec.h is its header; its inline functions take a store apart for those here.
+// The C library: every `extern "C"` function of the product. include/rec.h is its header; its inline functions take a store apart for those here, and put
+// figures into a report.
 ghost use mathlib.Core.Path.{_≡_};
 ghost use Prim.Native.Nat.{min};
 ghost use lib.Seq.{paste};
