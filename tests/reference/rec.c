@@ -1414,33 +1414,23 @@ uint32_t rec_store_reach(const struct rec_store *store, uint8_t letter,
     return 0;
 }
 
-/* ---- the win dividend -------------------------------------------------- */
 
-/* The product's thousands by long division: each place of the quotient, from the
- * highest, is how often its thousandfold can be taken away. The rest is dropped. */
-static uint64_t takeout_of(uint64_t pool, uint64_t rate)
-{
-    static const uint64_t places[] = {100000000, 10000000, 1000000, 100000, 10000,
-                                      1000, 100, 10, 1};
-    uint64_t rest = pool * rate;
-    uint64_t takeout = 0;
-    for (size_t i = 0; i < sizeof places / sizeof places[0]; i++)
-        while (rest >= places[i] * REC_WHOLE) {
-            rest -= places[i] * REC_WHOLE;
-            takeout += places[i];
-        }
-    return takeout;
-}
+/* ---- what a pool pays its winners -------------------------------------- */
 
-/* The greatest number of steps that the net can pay on every stake, bit by bit from
- * the highest. 27 bits are over any net, and their payments fit in 64. */
-static uint64_t dividend_of(uint64_t net, uint64_t stakes)
+/* The greatest multiple of 10 cents that, times the stakes, is not above the net,
+ * found by halving. There is at least one stake. All products are below 10^19. */
+static uint64_t greatest_dividend(uint64_t net, uint64_t stakes)
 {
-    uint64_t steps = 0;
-    for (uint64_t bit = (uint64_t)1 << 26; bit > 0; bit >>= 1)
-        if ((steps + bit) * REC_DIVIDEND_STEP * stakes <= net)
-            steps += bit;
-    return steps * REC_DIVIDEND_STEP;
+    uint64_t paid = 0;       /* a count of tens the net can pay */
+    uint64_t over = net + 1; /* one it cannot */
+    while (over - paid > 1) {
+        uint64_t middle = paid + (over - paid) / 2;
+        if (middle * REC_DIVIDEND_STEP * stakes > net)
+            over = middle;
+        else
+            paid = middle;
+    }
+    return paid * REC_DIVIDEND_STEP;
 }
 
 uint32_t rec_win_dividend(uint32_t pool, uint32_t rate, uint32_t stakes,
@@ -1451,9 +1441,9 @@ uint32_t rec_win_dividend(uint32_t pool, uint32_t rate, uint32_t stakes,
         return REC_BAD_POOL;
     if (stakes == 0)
         return REC_NO_WINNER;
-    payout->takeout = takeout_of(pool, rate);
+    payout->takeout = (uint64_t)pool * rate / REC_WHOLE;
     payout->net = pool - payout->takeout;
-    payout->dividend = dividend_of(payout->net, stakes);
+    payout->dividend = greatest_dividend(payout->net, stakes);
     payout->payments = payout->dividend * stakes;
     payout->breakage = payout->net - payout->payments;
     return 0;

@@ -7,7 +7,7 @@
  * rec_book_*       the book: texts, obeyed by the nested meaning over the tree
  * rec_store_*      the store: code tables, obeyed cell by cell, damaged or not
  * rec_store_reach  which letters a letter may call, read from the tables (U2)
- * rec_win_dividend what a pool pays its winners, by search and subtraction (U4)
+ * rec_win_dividend what a pool pays its winners, the dividend by search (U4)
  *
  * The two ways to run share no code beside the limits below. */
 #ifndef REFERENCE_H
