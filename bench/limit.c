@@ -103,7 +103,7 @@ equal: STEP; if (top == below[-1]) GO(at + 2); GO(at->to);
 add: STEP; top = *--below + top; GO(at + 1);
 subtract: STEP; top = *--below - top; GO(at + 1);
 multiply: STEP; top = *--below * top; GO(at + 1);
-divide: STEP; top = *--below / top; GO(at + 1);
+divide: STEP; below--; top = *below / top - (*below % top != 0 && (*below < 0) != (top < 0)); GO(at + 1);
 absolute: STEP; top = top < 0 ? -top : top; GO(at + 1);
 negate: STEP; top = -top; GO(at + 1);
 drop: STEP; top = *--below; GO(at + 1);

@@ -31,6 +31,9 @@ static int target_of(int32_t x, int used) { return x < 2 || used < x ? 0 : x; }
 /* The table of a letter, cell 1 at [1]. */
 static inline const int32_t *table_of(const int32_t *cells, int letter) { return cells + letter * REC_CELLS - 1; }
 
+/* "the greatest whole number not above the exact quotient": C drops the remainder toward zero. */
+static inline int64_t quotient(int64_t a, int64_t b) { return a / b - (a % b != 0 && (a < 0) != (b < 0)); }
+
 /* A run that is not refused. Apart from plain_run, inside which it is slower. */
 __attribute__((noinline)) static int32_t obey(const int32_t *cells, const size_t *used, int32_t *kept, int letter, uint32_t allowance,
                                               const int32_t *inputs, size_t count, int32_t *list, uint8_t *output, size_t room, rec_report *report) {
@@ -85,7 +88,7 @@ __attribute__((noinline)) static int32_t obey(const int32_t *cells, const size_t
             if (height < 2) { end = REC_LIST_EMPTY; goto out; }
             int64_t a = stack[height - 2], b = stack[height - 1], r;
             if (x == -'/' && b == 0) { end = REC_ZERO_DIVISOR; goto out; }
-            r = x == -'+' ? a + b : x == -'-' ? a - b : x == -'*' ? a * b : a / b;
+            r = x == -'+' ? a + b : x == -'-' ? a - b : x == -'*' ? a * b : quotient(a, b);
             if (r < -REC_VALUE_MAX || REC_VALUE_MAX < r) { end = REC_RANGE; goto out; }
             stack[height - 2] = (int32_t)r; stack[height - 1] = 0;
             height--; left--; at++;

@@ -27,8 +27,8 @@ extern "C" {
 
 /* The version of this header and of the archive beside it. */
 #define REC_VERSION_MAJOR 1
-#define REC_VERSION_MINOR 4
-#define REC_VERSION "1.4"
+#define REC_VERSION_MINOR 5
+#define REC_VERSION "1.5"
 
 /* Document 01's limits. */
 #define REC_TEXT 256            /* bytes of a text */

@@ -594,6 +594,30 @@ static uint32_t take_input(struct obeying *o)
     return stop;
 }
 
+/* Times the divisor, the order turns round where the divisor is below 0. */
+static bool is_above_quotient(int64_t whole, int64_t amount, int64_t divisor)
+{
+    return divisor > 0 ? whole * divisor > amount : whole * divisor < amount;
+}
+
+/* U5: "`/` gives the greatest whole number not above the exact quotient", found by
+ * halving. The divisor is not 0, so the quotient lies no further from 0 than the
+ * amount does. For any two numbers of 32 bits the products are at most 2^62. */
+static int64_t quotient_down(int64_t amount, int64_t divisor)
+{
+    int64_t size = amount < 0 ? -amount : amount;
+    int64_t found = -size;   /* a whole number not above the quotient */
+    int64_t over = size + 1; /* one above it */
+    while (over - found > 1) {
+        int64_t middle = found + (over - found) / 2;
+        if (is_above_quotient(middle, amount, divisor))
+            over = middle;
+        else
+            found = middle;
+    }
+    return found;
+}
+
 static uint32_t arithmetic(struct obeying *o, uint8_t mark)
 {
     int64_t second, top, result;
@@ -610,7 +634,7 @@ static uint32_t arithmetic(struct obeying *o, uint8_t mark)
     else if (mark == '*')
         result = second * top;
     else
-        result = second / top;
+        result = quotient_down(second, top);
     if (!in_values(result))
         return REC_RANGE;
     o->height--;
@@ -1096,6 +1120,16 @@ static size_t paper(const struct view *v, int64_t at)
     return code == 167 ? (size_t)cell(v, at + 1) : 0;
 }
 
+/* "Division now goes down" (U5). C drops the rest toward zero: that is one too high
+ * where a rest is dropped from a quotient below 0. The top is not 0; both come from
+ * the list, so 64 bits hold the quotient and one less. */
+static int64_t divide(int64_t second, int64_t top)
+{
+    bool rest = second % top != 0;
+    bool minus = (second < 0) != (top < 0);
+    return second / top - (rest && minus);
+}
+
 static int64_t calculate(int64_t code, int64_t second, int64_t top)
 {
     switch (code) {
@@ -1106,7 +1140,7 @@ static int64_t calculate(int64_t code, int64_t second, int64_t top)
     case '*':
         return second * top;
     default:
-        return second / top;
+        return divide(second, top);
     }
 }
 

@@ -1,5 +1,5 @@
-/* An independent implementation of document 01 and of U1, U2 and U4 of document
- * 02, to compare the engine with.
+/* An independent implementation of document 01 and of U1, U2, U4 and U5 of
+ * document 02, to compare the engine with.
  *
  * rec_read         reads a text: accepts it, or gives its first fault's number
  * rec_table        lays the text out as a code table of 250 cells
@@ -9,7 +9,8 @@
  * rec_store_reach  which letters a letter may call, read from the tables (U2)
  * rec_win_dividend what a pool pays its winners, the dividend by search (U4)
  *
- * The two ways to run share no code beside the limits below. */
+ * The two ways to run share no code beside the limits below: the book divides by
+ * search, the store by C's quotient, set right where U5 goes lower. */
 #ifndef REFERENCE_H
 #define REFERENCE_H
 

@@ -5,7 +5,8 @@ use lib.Dec.{eqb}
 use Rattle.language.specs.declared.Ending.the-variants.{Range}
 use Rattle.language.specs.Syntax.{Operator, absolute, negate, add, subtract, multiply, divide}
 use Rattle.language.specs.Values.{isValue}
-use Rattle.language.specs.Effects.{State, Effect, goes, stops, replaced, combined, quotient}
+use Rattle.language.specs.Division.{quotient}
+use Rattle.language.specs.Effects.{State, Effect, goes, stops, replaced, combined}
 use Rattle.arithmetic.specs.declared.Value.{Value}
 use Rattle.arithmetic.specs.declared.Value.the-variants.{Is, Far}
 use Rattle.arithmetic.specs.declared.UnaryOperator.{UnaryOperator}

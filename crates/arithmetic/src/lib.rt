@@ -2,9 +2,13 @@
 ghost use mathlib.Core.Path.{_≡_};
 ghost use mathlib.Core.Bool.{false};
 ghost use Prim.Native.Nat.{_+_};
+ghost use lib.IntN.{_-ℤ_};
+ghost use lib.Signed.{quotZ};
+ghost use Rattle.language.specs.Division.{quotient};
 ghost use Rattle.operands.specs.Held.{stacked};
 ghost use Rattle.operands.specs.Turns.{Turns, effected, operatorTurn};
 ghost use Rattle.operands.specs.Ready.{Ready, Due};
+ghost use Rattle.arithmetic.specs.declared.BinaryOperator.the-variants.{Divide};
 ghost use Rattle.arithmetic.specs.Results.{valueOf, unaryOf, unaryResult, replacedAs, binaryOf, undefinedFor, binaryResult, combinedAs};
 use language::Ending;
 use language::HEIGHT;
@@ -77,7 +81,30 @@ fn undefined(o: BinaryOperator, y: i32) -> bool
     }
 }
 
-// The result of an operator on second and top: "`/` drops the remainder toward zero".
+// How far the machine's quotient, which drops the remainder toward zero, is above document 02's, U5: "the greatest whole number not above the
+// exact quotient".
+fn excess(x: i32, y: i32) -> i64
+    requires { ⌜ undefinedFor Divide y ≡ false ⌝ }
+    ensures { λ r. ⌜ quotZ x y -ℤ r ≡ quotient x y ⌝ }
+{
+    let a = x as i64;
+    let b = y as i64;
+    if a % b == 0 {
+        return 0; // nothing was dropped
+    }
+    if a < 0 {
+        if b < 0 {
+            return 0; // both are negative, and the exact quotient is positive
+        }
+        return 1; // the dividend is negative
+    }
+    if b < 0 {
+        return 1; // the divisor is negative
+    }
+    0
+}
+
+// The result of an operator on second and top.
 fn binary_result(o: BinaryOperator, x: i32, y: i32) -> Value
     requires { ⌜ undefinedFor o y ≡ false ⌝ }
     ensures { λ r. ⌜ r ≡ binaryResult o x y ⌝ }
@@ -88,7 +115,7 @@ fn binary_result(o: BinaryOperator, x: i32, y: i32) -> Value
         BinaryOperator::Add => ranged(a + b),
         BinaryOperator::Subtract => ranged(a - b),
         BinaryOperator::Multiply => ranged(a * b),
-        BinaryOperator::Divide => { ranged(a / b) }
+        BinaryOperator::Divide => ranged(a / b - excess(x, y)),
     }
 }
 

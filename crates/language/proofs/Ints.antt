@@ -1,5 +1,5 @@
 -- Signed machine numbers: a bound on their distance from 0 says that they fit, and 32 bits fit in 64.
-use mathlib.Core.Path.{_≡_, refl, subst}
+use mathlib.Core.Path.{_≡_, refl, ap, subst}
 use mathlib.Core.Bool.{true, false}
 use Prim.Native.Nat.{zero, suc, _≤_}
 use native.Mathlib.Nat.{le-refl}
@@ -50,6 +50,11 @@ pub abs-opposite : (x : ℤ) → natAbs (negℤ x) ≡ natAbs x
 abs-opposite (pos zero) = refl
 abs-opposite (pos (suc n)) = refl
 abs-opposite (negsuc n) = refl
+
+-- what is at no distance from 0 is 0
+pub abs-zero : (x : ℤ) → natAbs x ≡ 0 → x ≡ pos 0
+abs-zero (pos n) e = ap pos e
+abs-zero (negsuc n) e = absurd (omega arith)
 
 -- 0 less a number is the number negated
 pub less : (x : ℤ) → pos 0 -ℤ x ≡ negℤ x

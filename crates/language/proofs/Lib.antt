@@ -1,6 +1,7 @@
 pub mod Answers
 pub mod MeaningEndings
 pub mod Between
+pub mod Division
 pub mod EffectsLawful
 pub mod EffectsLent
 pub mod Examples

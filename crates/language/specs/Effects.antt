@@ -4,7 +4,7 @@ use mathlib.Core.Bool.{Bool, true, false, cond}
 use mathlib.Core.Option.{Option, none, some}
 use mathlib.Core.List.{List, [], _∷_}
 use lib.IntN.{ℤ, pos, natAbs, negℤ, _+ℤ_, _-ℤ_, _*ℤ_}
-use lib.Signed.{ltZ, quotZ}
+use lib.Signed.{ltZ}
 use lib.ListN.{length, getD, set, replicate}
 use lib.Seq.{paste}
 use lib.Dec.{leb, ltb, eqb}
@@ -14,6 +14,7 @@ use Rattle.language.specs.Limits.{maxHeight, maxCounters, maxCalls, stor
 use Rattle.language.specs.Bytes.{newlineByte}
 use Rattle.language.specs.Values.{isValue}
 use Rattle.language.specs.Decimals.{padded}
+use Rattle.language.specs.Division.{quotient}
 use Rattle.language.specs.Syntax.{Operator, absolute, discard, negate, copy, write, newline, input, add, subtract, multiply, divide, fetch, save}
 use Rattle.language.specs.Syntax.{negative, null, equal, Operation, operator, variable, constant, print, Predicate, condition, counter}
 
@@ -128,11 +129,8 @@ column v = padded writeWidth v
 
 -- ── operations ──────────────────────────────────────────────────────────────────────────────────
 
--- "`/` drops the remainder toward zero"
-abbrev pub quotient : ℤ → ℤ → ℤ
-quotient a b = quotZ a b
-
--- "`A` absolute, `M` negated, `L` removes the top, `P` copies it." "`+ - * /` replace second and top by second-op-top" "21 before 24 before 23"
+-- "`A` absolute, `M` negated, `L` removes the top, `P` copies it." "`+ - * /` replace second and top by second-op-top", and of
+-- `/` that is `quotient`. "21 before 24 before 23"
 unfoldable pub operated : Operator → State → Effect
 unfolding column
 operated absolute s = needs 1 s (ranged (pos (natAbs (top s))) (replaced s (pos (natAbs (top s)))))

@@ -253,11 +253,34 @@ effects =
     ∷ once "('/1''/5''/7'-;)" (ends true 5 (pos 1 ∷ neg 2 ∷ []))
     ∷ once "('/1''/-4''/3'*;)" (ends true 5 (pos 1 ∷ neg 12 ∷ []))
     ∷ once "('/1''/8''/2'/;)" (ends true 5 (pos 1 ∷ pos 4 ∷ []))
-    -- "`/` drops the remainder toward zero"
+    -- Document 02, U5: "`/` gives the greatest whole number not above the exact quotient." "-7 by 2 is -4, 7 by -2 is -4, -7 by -2 is 3."
     ∷ once "('/7''/2'/;)" (ends true 4 (pos 3 ∷ []))
-    ∷ once "('/-7''/2'/;)" (ends true 4 (neg 3 ∷ []))
-    ∷ once "('/7''/-2'/;)" (ends true 4 (neg 3 ∷ []))
+    ∷ once "('/-7''/2'/;)" (ends true 4 (neg 4 ∷ []))
+    ∷ once "('/7''/-2'/;)" (ends true 4 (neg 4 ∷ []))
     ∷ once "('/-7''/-2'/;)" (ends true 4 (pos 3 ∷ []))
+    -- exact quotients
+    ∷ once "('/8''/2'/;)" (ends true 4 (pos 4 ∷ []))
+    ∷ once "('/-8''/2'/;)" (ends true 4 (neg 4 ∷ []))
+    ∷ once "('/8''/-2'/;)" (ends true 4 (neg 4 ∷ []))
+    ∷ once "('/-8''/-2'/;)" (ends true 4 (pos 4 ∷ []))
+    -- between -1 and 1
+    ∷ once "('/1''/2'/;)" (ends true 4 (pos 0 ∷ []))
+    ∷ once "('/-1''/2'/;)" (ends true 4 (neg 1 ∷ []))
+    ∷ once "('/1''/-2'/;)" (ends true 4 (neg 1 ∷ []))
+    ∷ once "('/-1''/-2'/;)" (ends true 4 (pos 0 ∷ []))
+    ∷ once "('/0''/2'/;)" (ends true 4 (pos 0 ∷ []))
+    ∷ once "('/0''/-2'/;)" (ends true 4 (pos 0 ∷ []))
+    -- the ends of the range, by 1, -1 and each other
+    ∷ once "('/999999999''/1'/;)" (ends true 4 (pos 999999999 ∷ []))
+    ∷ once "('/-999999999''/1'/;)" (ends true 4 (neg 999999999 ∷ []))
+    ∷ once "('/999999999''/-1'/;)" (ends true 4 (neg 999999999 ∷ []))
+    ∷ once "('/-999999999''/-1'/;)" (ends true 4 (pos 999999999 ∷ []))
+    ∷ once "('/1''/999999999'/;)" (ends true 4 (pos 0 ∷ []))
+    ∷ once "('/-1''/999999999'/;)" (ends true 4 (neg 1 ∷ []))
+    ∷ once "('/1''/-999999999'/;)" (ends true 4 (neg 1 ∷ []))
+    ∷ once "('/-1''/-999999999'/;)" (ends true 4 (pos 0 ∷ []))
+    ∷ once "('/-999999999''/999999998'/;)" (ends true 4 (neg 2 ∷ []))
+    ∷ once "('/-999999999''/2'/;)" (ends true 4 (neg 500000000 ∷ []))
     -- "`N` top negative, `0` top zero, `J` the two top values equal: these remove nothing."
     ∷ once "('/-1'N;)" (ends true 3 (neg 1 ∷ []))
     ∷ once "('/0'N;)" (ends false 3 (pos 0 ∷ []))

@@ -11,6 +11,7 @@ pub mod Tokens
 pub mod Layout
 pub mod Reading
 pub mod Grammar
+pub mod Division
 pub mod Effects
 pub mod Meaning
 pub mod Machine

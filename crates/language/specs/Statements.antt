@@ -5,6 +5,7 @@ use mathlib.Core.Bool.{Bool, true, false, cond, not}
 use mathlib.Core.Option.{Option, none, some}
 use mathlib.Core.List.{List, _∷_, _++_}
 use lib.IntN.{ℤ, pos}
+use lib.Signed.{_≤ℤ_}
 use lib.ListN.{length, getD, drop}
 use lib.Dec.{eqb}
 use Rattle.language.specs.declared.Table.{Table}
@@ -12,11 +13,13 @@ use Rattle.language.specs.declared.Refusal.{Refusal}
 use Rattle.language.specs.declared.Refusal.the-variants.{LongText, Unfinished}
 use Rattle.language.specs.Answers.{refusalNumber}
 use Rattle.language.specs.Limits.{maxText, maxCells, maxHeight}
-use Rattle.language.specs.Syntax.{Expr, close, semi, colon, operate, test, call, inner}
+use Rattle.language.specs.Syntax.{Expr, close, semi, colon, operate, test, call, inner, operator, divide}
+use Rattle.language.specs.Values.{isValue}
 use Rattle.language.specs.Reading.{Reading, refused, accepted, read}
 use Rattle.language.specs.Grammar.{Spells, Within}
 use Rattle.language.specs.Layout.{afterOperation, afterPredicate, afterCall, afterExpr, falseExit, codeStart, usedCells, layout}
-use Rattle.language.specs.Effects.{State, start}
+use Rattle.language.specs.Division.{NotAbove, IsQuotient, quotient}
+use Rattle.language.specs.Effects.{State, start, goes, top, second, combined, perform}
 use Rattle.language.specs.Meaning.{Outcome, ended, stopped, meaning}
 use Rattle.language.specs.Machine.{Instruction, transfer, fail, operateAt, testAt, callAt, Decoded, last, code, cell, decode}
 use Rattle.language.specs.Tables.{tableAt, execute}
@@ -125,6 +128,28 @@ pub record Alike (t v : Table) : Type 0 where
 abbrev pub ReadsUsed : Type 0
 ReadsUsed =
     (c d : List ℤ) (u v : List ℕ) → ((a : ℕ) → Alike (tableAt c u a) (tableAt d v a)) → (a n : ℕ) (s : State) → execute c u a n s ≡ execute d v a n s
+
+-- ── division ────────────────────────────────────────────────────────────────────────────────────
+
+-- Document 02, U5: where the divisor is not 0, `quotient` is the number that the law says, and no other is. proofs/Division `quotient-exact`
+abbrev pub QuotientExact : Type 0
+QuotientExact = (a b q : ℤ) → (b ≡ pos 0 → ⊥) → (quotient a b ≡ q → IsQuotient a b q) × (IsQuotient a b q → quotient a b ≡ q)
+
+-- "the greatest whole number not above the exact quotient": the whole numbers that are not above it are those up to `quotient`.
+-- proofs/Division `quotient-greatest`
+abbrev pub QuotientGreatest : Type 0
+QuotientGreatest = (a b p : ℤ) → (b ≡ pos 0 → ⊥) → (NotAbove a b p → p ≤ℤ quotient a b) × (p ≤ℤ quotient a b → NotAbove a b p)
+
+-- By 0 there is no such number: so 24. proofs/Division `none-by-zero`
+abbrev pub NoneByZero : Type 0
+NoneByZero = (a q : ℤ) → IsQuotient a (pos 0) q → ⊥
+
+-- In a run: where there are two values and the top is not 0, `/` replaces them by the number that the law says, which is a value too.
+-- proofs/Division `divides-down`
+abbrev pub DividesDown : Type 0
+DividesDown =
+    (s : State) (q : ℤ) → 2 ≤ s .height → isValue (second s) ≡ true → (top s ≡ pos 0 → ⊥) → IsQuotient (second s) (top s) q
+    → perform (operator divide) s ≡ goes (combined s q)
 
 -- ── the machine and the meaning ─────────────────────────────────────────────────────────────────
 

@@ -11,7 +11,7 @@ use mir.Syntax.{w32, w64}
 use mir.Val.{SFits, toZ, ofZ}
 use mir.Facts.{toZ-ofZ}
 use borrow.Author.Tests.{ltb-true, eq-eqb, ne-eqb, eqb-true, eqb-false}
-use Rattle.language.proofs.Ints.{fits32, fits64, bound32, widened, widened-is, abs-opposite}
+use Rattle.language.proofs.Ints.{fits32, fits64, bound32, widened, widened-is, abs-opposite, abs-zero}
 
 -- what a local holds of a value is the value
 pub back32 : (z : ℤ) → natAbs z ≤ 2147483647 → toZ w32 (ofZ w32 z) ≡ z
@@ -82,11 +82,6 @@ pub quotient-fits : (x y : ℤ) → SFits w32 x → SFits w64 (quotZ x y)
 quotient-fits x y fx = fits64 (quotZ x y) (omega (arith, bound32 x fx, abs-quot x y))
 
 -- ── equality ───────────────────────────────────────────────────────────────────────────────────────
-
--- equality, and the difference 0
-pub abs-zero : (x : ℤ) → natAbs x ≡ 0 → x ≡ pos 0
-abs-zero (pos n) e = ap pos e
-abs-zero (negsuc n) e = absurd (omega arith)
 
 -- equal values have the difference 0
 pub same-difference : (x y : ℤ) → x ≡ y → natAbs (x -ℤ y) ≡ 0
