@@ -1,6 +1,6 @@
 -- Division: `quotient` is the number that its law says, and no other is.
 use mathlib.Core.Path.{_≡_, refl, sym, ap, _∙_, subst}
-use mathlib.Core.Bool.{Bool, true, false, not}
+use mathlib.Core.Bool.{Bool, true, false, cond, not}
 use Prim.Native.Nat.{ℕ, zero, suc, _+_, _*_, _/_, _≤_}
 use native.Mathlib.Nat.{le-div-iff-mul-le, div-lt-iff-lt-mul, div-le-self, suc-mul, add-suc}
 use native.Mathlib.Omega.{arith}
@@ -8,10 +8,11 @@ use lib.Dec.{T, leb, ltb, leb→le, nleb→lt, leb·suc-suc, leb·zero, leb·suc
 use lib.IntN.{ℤ, pos, negsuc, negℤ, natAbs, sucℤ, _+ℤ_, _*ℤ_, *ℤ-negsuc, *ℤ-zero, +ℤ-one, negℤ-negℤ}
 use lib.Signed.{leZ, ltZ, ≤ℤ-refl, clashℤ}
 use borrow.Author.Tests.{leb-true, leb-false, le-leb, lt-leb, le-ltb, ne-eqb}
+use Rattle.language.specs.declared.Ending.the-variants.{Range}
 use Rattle.language.specs.Limits.{maxValue}
 use Rattle.language.specs.Values.{isValue}
 use Rattle.language.specs.Division.{NotAbove, Above, IsQuotient, floor, quotient}
-use Rattle.language.specs.Effects.{State, goes, top, second, combined, perform}
+use Rattle.language.specs.Effects.{State, goes, stops, top, second, ranged, combined, perform}
 use Rattle.language.specs.Statements.{QuotientExact, QuotientGreatest, NoneByZero, DividesDown}
 use Rattle.language.proofs.Tests.{by-ltb}
 use Rattle.language.proofs.Ints.{abs-zero}
@@ -172,9 +173,7 @@ quotient-value x y h =
 pub divides-down : DividesDown
 unfolding perform
 divides-down s q h v n i =
-    rw (
-      le-ltb (s .height) 2 h,
-      ne-eqb (natAbs (top s)) 0 (λ e. n (abs-zero (top s) e)),
-      quotient-value (second s) (top s) v,
-      is-quotient (second s) (top s) q n i,
-    ) refl
+    let e = is-quotient (second s) (top s) q n i in
+    let w : isValue q ≡ true = subst (λ (z : ℤ). isValue z ≡ true) e (quotient-value (second s) (top s) v) in
+    rw (le-ltb (s .height) 2 h, ne-eqb (natAbs (top s)) 0 (λ z. n (abs-zero (top s) z)))
+    (ap (λ (z : ℤ). ranged z (combined s z)) e ∙ ap (λ (u : Bool). cond u (goes (combined s q)) (stops Range)) w)
