@@ -238,7 +238,8 @@ static bool round_of(uint64_t seed)
         int32_t b = chance(&r, 40) ? between(&r, -12, 12) : random_value(&r), a = random_value(&r);
         if (b != 0 && chance(&r, 40)) { /* a multiple, or next to one */
             int32_t most = (int32_t)(MOST / size_of(b));
-            int64_t near = (int64_t)between(&r, -most, most) * b + between(&r, -1, 1);
+            int64_t near = (int64_t)between(&r, -most, most) * b;
+            near += between(&r, -1, 1);
             a = near < -MOST || MOST < near ? a : (int32_t)near;
         }
         good &= add(&r, &t, &call, a, b);

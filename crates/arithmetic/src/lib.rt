@@ -2,8 +2,6 @@
 ghost use mathlib.Core.Path.{_≡_};
 ghost use mathlib.Core.Bool.{false};
 ghost use Prim.Native.Nat.{_+_};
-ghost use lib.IntN.{_-ℤ_};
-ghost use lib.Signed.{quotZ};
 ghost use Rattle.language.specs.Division.{quotient};
 ghost use Rattle.operands.specs.Held.{stacked};
 ghost use Rattle.operands.specs.Turns.{Turns, effected, operatorTurn};
@@ -81,27 +79,27 @@ fn undefined(o: BinaryOperator, y: i32) -> bool
     }
 }
 
-// How far the machine's quotient, which drops the remainder toward zero, is above document 02's, U5: "the greatest whole number not above the
-// exact quotient".
-fn excess(x: i32, y: i32) -> i64
+// Document 02, U5: "the greatest whole number not above the exact quotient". The processor drops the remainder toward zero. So where the exact
+// quotient is negative, a dividend one nearer to 0 is divided, and 1 taken from the result.
+fn divided(x: i32, y: i32) -> i64
     requires { ⌜ undefinedFor Divide y ≡ false ⌝ }
-    ensures { λ r. ⌜ quotZ x y -ℤ r ≡ quotient x y ⌝ }
+    ensures { λ r. ⌜ r ≡ quotient x y ⌝ }
 {
     let a = x as i64;
     let b = y as i64;
-    if a % b == 0 {
-        return 0; // nothing was dropped
-    }
     if a < 0 {
         if b < 0 {
-            return 0; // both are negative, and the exact quotient is positive
+            return a / b; // both are negative
         }
-        return 1; // the dividend is negative
+        return (a + 1) / b - 1;
+    }
+    if a == 0 {
+        return 0;
     }
     if b < 0 {
-        return 1; // the divisor is negative
+        return (a - 1) / b - 1;
     }
-    0
+    a / b
 }
 
 // The result of an operator on second and top.
@@ -115,7 +113,7 @@ fn binary_result(o: BinaryOperator, x: i32, y: i32) -> Value
         BinaryOperator::Add => ranged(a + b),
         BinaryOperator::Subtract => ranged(a - b),
         BinaryOperator::Multiply => ranged(a * b),
-        BinaryOperator::Divide => ranged(a / b - excess(x, y)),
+        BinaryOperator::Divide => ranged(divided(x, y)),
     }
 }
 

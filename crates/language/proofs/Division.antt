@@ -7,29 +7,17 @@ use native.Mathlib.Omega.{arith}
 use lib.Dec.{T, leb, ltb, leb→le, nleb→lt, leb·suc-suc, leb·zero, leb·suc-zero}
 use lib.IntN.{ℤ, pos, negsuc, negℤ, natAbs, sucℤ, _+ℤ_, _*ℤ_, *ℤ-negsuc, *ℤ-zero, +ℤ-one, negℤ-negℤ}
 use lib.Signed.{leZ, ltZ, ≤ℤ-refl, clashℤ}
-use borrow.Author.Tests.{leb-true, leb-false, le-leb, lt-leb, le-ltb, ne-eqb}
+use borrow.Author.Tests.{leb-true, le-leb, lt-leb, le-ltb, ne-eqb}
 use Rattle.language.specs.declared.Ending.the-variants.{Range}
 use Rattle.language.specs.Limits.{maxValue}
 use Rattle.language.specs.Values.{isValue}
 use Rattle.language.specs.Division.{NotAbove, Above, IsQuotient, floor, quotient}
-use Rattle.language.specs.Effects.{State, goes, stops, top, second, ranged, combined, perform}
+use Rattle.language.specs.Effects.{goes, stops, top, second, ranged, combined, perform}
 use Rattle.language.specs.Statements.{QuotientExact, QuotientGreatest, NoneByZero, DividesDown}
-use Rattle.language.proofs.Tests.{by-ltb}
+use Rattle.language.proofs.Tests.{by-ltb, leb-same}
 use Rattle.language.proofs.Ints.{abs-zero}
 
 -- ── tests of order ──────────────────────────────────────────────────────────────────────────────
-
--- two tests of natural numbers that hold together
-leb-same : (a b c d : ℕ) → (a ≤ b → c ≤ d) → (c ≤ d → a ≤ b) → leb a b ≡ leb c d
-leb-same a b c d f g = go (leb a b) refl
-  where
-    go : (u : Bool) → leb a b ≡ u → u ≡ leb c d
-    go true e = sym (le-leb c d (f (leb-true a b e)))
-    go false e = sym (other (leb c d) refl)
-      where
-        other : (v : Bool) → leb c d ≡ v → v ≡ false
-        other true k = let p = g (leb-true c d k) in let q = leb-false a b e in absurd (omega (arith, p, q))
-        other false k = refl
 
 -- the opposites are in the opposite order
 opposites : (x y : ℤ) → leZ (negℤ y) (negℤ x) ≡ leZ x y
@@ -82,15 +70,16 @@ negative-product p b = ap (λ (n : ℕ). negℤ (pos n)) (suc-mul p (suc b) ∙ 
 
 -- "not above" by a positive divisor is 'at most the floor'
 floor-test : (a : ℤ) (b : ℕ) (p : ℤ) → leZ (p *ℤ pos (suc b)) a ≡ leZ p (floor a (suc b))
-floor-test (pos a) b (pos p) = let i = le-div-iff-mul-le {k = suc b} {x = p} {y = a} (omega arith) in leb-same (p * suc b) a p (a / suc b) (i .1) (i .0)
+floor-test (pos a) b (pos p) =
+    leb-same (p * suc b) a p (a / suc b) (le-div-iff-mul-le {k = suc b} (omega arith) .1) (div-lt-iff-lt-mul {k = suc b} (omega arith) .1)
 floor-test (pos a) b (negsuc p) = rw (negative-product p b) refl
 floor-test (negsuc a) b (pos p) = refl
 floor-test (negsuc a) b (negsuc p) =
-    let i = div-lt-iff-lt-mul {k = suc b} {x = a} {y = suc p} (omega arith) in
     let m = suc-mul p (suc b) in
     rw (negative-product p b)
-    (leb-same a (p * suc b + b) (a / suc b) p (λ h. let k = i .1 (omega (arith, h, m)) in omega (arith, k))
-    (λ h. let k = i .0 (omega (arith, h)) in omega (arith, k, m)))
+    (leb-same a (p * suc b + b) (a / suc b) p
+    (λ h. let k = div-lt-iff-lt-mul {k = suc b} {x = a} {y = suc p} (omega arith) .1 (omega (arith, h, m)) in omega (arith, k))
+    (λ h. let k = le-div-iff-mul-le {k = suc b} {x = suc p} {y = a} (omega arith) .1 (omega (arith, h, m)) in omega (arith, k)))
 
 -- ── the quotient ────────────────────────────────────────────────────────────────────────────────
 

@@ -1,9 +1,9 @@
 -- Tests, and what they say.
-use mathlib.Core.Path.{_≡_, refl}
+use mathlib.Core.Path.{_≡_, refl, sym}
 use mathlib.Core.Bool.{Bool, true, false, _&&_}
 use Prim.Native.Nat.{ℕ, _≤_, _<_}
-use lib.Dec.{ltb}
-use borrow.Author.Tests.{ltb-true, ltb-false}
+use lib.Dec.{leb, ltb}
+use borrow.Author.Tests.{le-leb, lt-leb, leb-true, leb-false, ltb-true, ltb-false}
 
 -- two tests hold together
 pub both-true : (u v : Bool) → u ≡ true → v ≡ true → (u && v) ≡ true
@@ -28,3 +28,11 @@ by-ltb a b P h k = go (ltb a b) refl
     go : (u : Bool) → ltb a b ≡ u → P u
     go true e = h (ltb-true a b e)
     go false e = k (ltb-false a b e)
+
+-- two tests that hold together
+pub leb-same : (a b c d : ℕ) → (a ≤ b → c ≤ d) → (b < a → d < c) → leb a b ≡ leb c d
+leb-same a b c d f g = go (leb a b) refl
+  where
+    go : (u : Bool) → leb a b ≡ u → u ≡ leb c d
+    go true e = sym (le-leb c d (f (leb-true a b e)))
+    go false e = sym (lt-leb c d (g (leb-false a b e)))

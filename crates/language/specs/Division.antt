@@ -15,7 +15,8 @@ abbrev pub Above : ℤ → ℤ → ℤ → Type 0
 Above a (pos b) p = a <ℤ (p *ℤ pos b)
 Above a (negsuc b) p = (p *ℤ negsuc b) <ℤ a
 
--- "`/` gives the greatest whole number not above the exact quotient": q·b ≤ a < (q + 1)·b, and the other way round where b is negative
+-- "`/` gives the greatest whole number not above the exact quotient": q·b ≤ a < (q + 1)·b, and the other way round where b is negative. By 0
+-- there is none (`NoneByZero` of Statements).
 pub record IsQuotient (a b q : ℤ) : Type 0 where
   pub not-above : NotAbove a b q
   pub next-above : Above a b (q +ℤ pos 1)

@@ -270,7 +270,7 @@ effects =
     ∷ once "('/-1''/-2'/;)" (ends true 4 (pos 0 ∷ []))
     ∷ once "('/0''/2'/;)" (ends true 4 (pos 0 ∷ []))
     ∷ once "('/0''/-2'/;)" (ends true 4 (pos 0 ∷ []))
-    -- the ends of the range, by 1, -1 and each other
+    -- the ends of the range by 1 and -1, 1 and -1 by them, and they by each other
     ∷ once "('/999999999''/1'/;)" (ends true 4 (pos 999999999 ∷ []))
     ∷ once "('/-999999999''/1'/;)" (ends true 4 (neg 999999999 ∷ []))
     ∷ once "('/999999999''/-1'/;)" (ends true 4 (neg 999999999 ∷ []))
@@ -279,6 +279,10 @@ effects =
     ∷ once "('/-1''/999999999'/;)" (ends true 4 (neg 1 ∷ []))
     ∷ once "('/1''/-999999999'/;)" (ends true 4 (neg 1 ∷ []))
     ∷ once "('/-1''/-999999999'/;)" (ends true 4 (pos 0 ∷ []))
+    ∷ once "('/999999999''/999999999'/;)" (ends true 4 (pos 1 ∷ []))
+    ∷ once "('/-999999999''/999999999'/;)" (ends true 4 (neg 1 ∷ []))
+    ∷ once "('/999999999''/-999999999'/;)" (ends true 4 (neg 1 ∷ []))
+    ∷ once "('/-999999999''/-999999999'/;)" (ends true 4 (pos 1 ∷ []))
     ∷ once "('/-999999999''/999999998'/;)" (ends true 4 (neg 2 ∷ []))
     ∷ once "('/-999999999''/2'/;)" (ends true 4 (neg 500000000 ∷ []))
     -- "`N` top negative, `0` top zero, `J` the two top values equal: these remove nothing."
@@ -409,7 +413,6 @@ stops =
     ∷ once "('/-999999999'M;)" (ends true 3 (pos 999999999 ∷ []))
     ∷ once "('/-999999999'A;)" (ends true 3 (pos 999999999 ∷ []))
     ∷ once "('/999999999'M;)" (ends true 3 (neg 999999999 ∷ []))
-    ∷ once "('/-999999999''/-1'/;)" (ends true 4 (pos 999999999 ∷ []))
     -- 24, after 21 and before 23
     ∷ once "('/1''/0'/;)" (halts 24 2 (pos 1 ∷ pos 0 ∷ []))
     ∷ once "('/0''/0'/;)" (halts 24 2 (pos 0 ∷ pos 0 ∷ []))

@@ -1,20 +1,13 @@
 -- `arithmetic::binary_result` meets its contract.
 use mathlib.Core.Path.{_≡_, ap, _∙_}
-use mathlib.Core.Bool.{false}
-use native.Mathlib.Omega.{arith}
-use lib.IntN.{ℤ, natAbs, _+ℤ_, _-ℤ_, _*ℤ_}
-use lib.Signed.{quotZ}
+use lib.IntN.{ℤ, _+ℤ_, _-ℤ_, _*ℤ_}
 use mir.Syntax.{w64}
-use mir.Val.{SFits, toZ, ofZ}
+use mir.Val.{SFits}
 use mir.Facts.{toZ-ofZ}
-use lib.Dec.{eqb}
-use borrow.Author.Tests.{eqb-false}
 use borrow.Author.Needs.{needs}
 use Rattle.arithmetic.specs.Results.{valueOf}
-use Rattle.language.specs.Division.{quotient}
-use Rattle.language.proofs.Ints.{wide, widened}
-use Rattle.operands.proofs.Ints.{wide-fits, wide-back, sum-fits, difference-fits, product-fits, quotient-fits, wide-nonzero}
-use Rattle.arithmetic.proofs.Division.{floor-fits}
+use Rattle.language.proofs.Ints.{wide}
+use Rattle.operands.proofs.Ints.{wide-fits, wide-back, sum-fits, difference-fits, product-fits}
 use Rattle.arithmetic.proofs.binary_result.Statement.{statement}
 use Rattle.arithmetic.proofs.binary_result.Tie as tie
 
@@ -36,34 +29,8 @@ sub-ranged c = let s = c .before .before in wide-fits _-ℤ_ (s .args .x) (s .ar
 mul-ranged : tie.Need-mul-ranged
 mul-ranged c = let s = c .before .before in wide-fits _*ℤ_ (s .args .x) (s .args .y) (s .fits .x) (s .fits .y) (product-fits _ _ (s .fits .x) (s .fits .y))
 
--- a divisor that the function allows
-module _ (c : tie.After-enum-told4) where
-  allowed : eqb (natAbs (c .before .before .args .y)) 0 ≡ false
-  allowed = rw (c .enum-told4 .given .1) at (c .before .before .pre)
-
-div-ranged : tie.Need-div-ranged
-div-ranged c =
-    let s = c .before .before in
-    let y = s .args .y in
-    let n = wide-nonzero y (s .fits .y) (λ e. eqb-false _ _ (allowed c) (ap natAbs e)) in
-    (omega arith, wide-fits quotZ (s .args .x) y (s .fits .x) (s .fits .y) (quotient-fits _ _ (s .fits .x)))
-
-excess-requires : tie.Need-excess-requires
-excess-requires c κs = rw (toZ-ofZ (c .before .before .fits .y)) (allowed c)
-
--- the machine's quotient less the excess
-module _ (c : tie.After-excess) where
-  lowered : toZ w64 (ofZ w64 (quotZ (widened (c .before .before .before .args .x)) (widened (c .before .before .before .args .y))))
-      -ℤ toZ w64 (ofZ w64 (c .excess .result))
-      ≡ quotient (c .before .before .before .args .x) (c .before .before .before .args .y)
-  lowered =
-      let s = c .before .before .before in
-      let f : SFits w64 (c .excess .result) = record { sfits = c .excess .ok } in
-      rw (wide-back quotZ (s .args .x) (s .args .y) (s .fits .x) (s .fits .y) (quotient-fits _ _ (s .fits .x)), toZ-ofZ f)
-      (rw (toZ-ofZ (s .fits .x), toZ-ofZ (s .fits .y)) at (c .excess .ensures))
-
-sub-ranged-2 : tie.Need-sub-ranged-2
-sub-ranged-2 c = let s = c .before .before .before in rw (lowered c) (floor-fits _ (s .args .y) (s .fits .x))
+divided-requires : tie.Need-divided-requires
+divided-requires c κs = rw (toZ-ofZ (c .before .before .fits .y)) (rw (c .enum-told4 .given .1) at (c .before .before .pre))
 
 returns : tie.Need-returns
 returns c =
@@ -87,10 +54,11 @@ returns-4 : tie.Need-returns-4
 returns-4 c =
     let d = c .before in
     let s = d .before .before .before in
+    let f : SFits w64 (d .divided .result) = record { sfits = d .divided .ok } in
     rw (d .before .enum-told4 .given .1)
-    (c .ranged4 .ensures ∙ ap (λ (z : ℤ). valueOf z) (ap (λ (z : ℤ). toZ w64 (ofZ w64 z)) (lowered d) ∙ toZ-ofZ (floor-fits _ (s .args .y) (s .fits .x))))
+    (c .ranged4 .ensures ∙ ap (λ (z : ℤ). valueOf z) (toZ-ofZ f ∙ (rw (toZ-ofZ (s .fits .x), toZ-ofZ (s .fits .y)) at (d .divided .ensures))))
 
 pub binary-result-spec : {M : Type 1} → statement M
 binary-result-spec =
     tie.close (tie.spec cast-a cast-b enum-told add-ranged (λ c κs. search needs) (λ c. search needs) sub-ranged (λ c κs. search needs)
-    (λ c. search needs) mul-ranged (λ c κs. search needs) (λ c. search needs) div-ranged excess-requires sub-ranged-2 (λ c κs. search needs) returns returns-2 returns-3 returns-4)
+    (λ c. search needs) mul-ranged (λ c κs. search needs) (λ c. search needs) divided-requires (λ c κs. search needs) returns returns-2 returns-3 returns-4)

@@ -1,20 +1,11 @@
 -- `fits` meets its contract.
-use mathlib.Core.Path.{_≡_, refl, sym}
-use mathlib.Core.Bool.{Bool, true, false}
-use Prim.Native.Nat.{ℕ, _+_, _-_, _≤_, _<_}
+use mathlib.Core.Path.{sym}
+use Prim.Native.Nat.{_+_, _-_}
 use native.Mathlib.Omega.{arith}
-use lib.Dec.{leb}
-use borrow.Author.Tests.{le-leb, lt-leb, leb-true, leb-false}
+use borrow.Author.Tests.{lt-leb}
+use Rattle.language.proofs.Tests.{leb-same}
 use Rattle.numerals.proofs.fits.Statement.{statement}
 use Rattle.numerals.proofs.fits.Tie as tie
-
--- two tests that hold together
-leb-same : (a b c d : ℕ) → (a ≤ b → c ≤ d) → (b < a → d < c) → leb a b ≡ leb c d
-leb-same a b c d f g = go (leb a b) refl
-  where
-    go : (u : Bool) → leb a b ≡ u → u ≡ leb c d
-    go true e = sym (le-leb c d (f (leb-true a b e)))
-    go false e = sym (lt-leb c d (g (leb-false a b e)))
 
 returns : tie.Need-returns
 returns c = let s = c .before .args in sym (lt-leb (s .at + s .count) (s .size) (omega arith))
