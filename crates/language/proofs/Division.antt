@@ -145,7 +145,7 @@ pub none-by-zero : NoneByZero
 none-by-zero a q h = clashℤ (rw (*ℤ-zero (q +ℤ pos 1)) at (h .next-above)) (rw (*ℤ-zero q) at (h .not-above))
 
 -- a quotient is no farther from 0 than the dividend
-pub abs-quotient : (x y : ℤ) → natAbs (quotient x y) ≤ natAbs x
+abs-quotient : (x y : ℤ) → natAbs (quotient x y) ≤ natAbs x
 abs-quotient (pos a) (pos b) = div-le-self a b
 abs-quotient (negsuc a) (pos b) = let h = div-le-self a b in omega (arith, h)
 abs-quotient (pos zero) (negsuc b) = div-le-self 0 (suc b)
