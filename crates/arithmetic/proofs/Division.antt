@@ -1,6 +1,6 @@
 -- The processor's quotient, which drops the remainder toward zero, and document 02's.
-use mathlib.Core.Path.{_≡_, refl, sym, ap, _∙_, subst}
-use mathlib.Core.Bool.{true, false}
+use mathlib.Core.Path.{_≡_, refl, sym, ap, subst}
+use mathlib.Core.Bool.{Bool, true, false}
 use Prim.Native.Nat.{ℕ, zero, suc, _+_, _/_, _≤_}
 use native.Mathlib.Nat.{zero-div}
 use native.Mathlib.Omega.{arith}
@@ -57,8 +57,12 @@ divisor-negative (negsuc a) (negsuc b) z p q = absurd (subst T p tt)
 
 -- ── through 64 bits ─────────────────────────────────────────────────────────────────────────────
 
+-- the test of a value's sign
+pub sign : (z : ℤ) → SFits w32 z → (t : Bool) → ltZ (widened z) (pos 0) ≡ t → ltZ z (pos 0) ≡ t
+sign z f t h = rw (widened-is z f) at h
+
 -- a dividend moved by at most 1, its quotient, and that moved by at most 1, as their locals hold them
-module _ (x y by then : ℤ) (fx : SFits w32 x) (fy : SFits w32 y) (near : natAbs by ≤ 1) (little : natAbs then ≤ 1) where
+module _ (x y by more : ℤ) (fx : SFits w32 x) (fy : SFits w32 y) (near : natAbs by ≤ 1) (little : natAbs more ≤ 1) where
   -- the dividend fits
   moved-within : SFits w64 (x +ℤ by)
   moved-within = fits64 (x +ℤ by) (omega (arith, bound32 x fx, near, abs-add x by))
@@ -66,8 +70,8 @@ module _ (x y by then : ℤ) (fx : SFits w32 x) (fy : SFits w32 y) (near : natAb
   pub moved-fits : SFits w64 (widened x +ℤ by)
   moved-fits = rw (widened-is x fx) moved-within
 
-  moved : toZ w64 (ofZ w64 (widened x +ℤ by)) ≡ x +ℤ by
-  moved = rw (widened-is x fx) (toZ-ofZ moved-within)
+  moved-held : toZ w64 (ofZ w64 (widened x +ℤ by)) ≡ x +ℤ by
+  moved-held = rw (widened-is x fx) (toZ-ofZ moved-within)
 
   -- its quotient fits
   quotient-bound : natAbs (quotZ (x +ℤ by) y) ≤ 2147483649
@@ -77,17 +81,17 @@ module _ (x y by then : ℤ) (fx : SFits w32 x) (fy : SFits w32 y) (near : natAb
   quotient-within = fits64 (quotZ (x +ℤ by) y) (omega (arith, quotient-bound))
 
   pub moved-quotient-fits : SFits w64 (quotZ (toZ w64 (ofZ w64 (widened x +ℤ by))) (widened y))
-  moved-quotient-fits = rw (moved, widened-is y fy) quotient-within
+  moved-quotient-fits = rw (moved-held, widened-is y fy) quotient-within
 
-  divided : toZ w64 (ofZ w64 (quotZ (toZ w64 (ofZ w64 (widened x +ℤ by))) (widened y))) ≡ quotZ (x +ℤ by) y
-  divided = rw (moved, widened-is y fy) (toZ-ofZ quotient-within)
+  quotient-held : toZ w64 (ofZ w64 (quotZ (toZ w64 (ofZ w64 (widened x +ℤ by))) (widened y))) ≡ quotZ (x +ℤ by) y
+  quotient-held = rw (moved-held, widened-is y fy) (toZ-ofZ quotient-within)
 
   -- and that moved
-  result-within : SFits w64 (quotZ (x +ℤ by) y +ℤ then)
-  result-within = fits64 (quotZ (x +ℤ by) y +ℤ then) (omega (arith, quotient-bound, little, abs-add (quotZ (x +ℤ by) y) then))
+  result-within : SFits w64 (quotZ (x +ℤ by) y +ℤ more)
+  result-within = fits64 (quotZ (x +ℤ by) y +ℤ more) (omega (arith, quotient-bound, little, abs-add (quotZ (x +ℤ by) y) more))
 
-  pub result-fits : SFits w64 (toZ w64 (ofZ w64 (quotZ (toZ w64 (ofZ w64 (widened x +ℤ by))) (widened y))) +ℤ then)
-  result-fits = rw divided result-within
+  pub result-fits : SFits w64 (toZ w64 (ofZ w64 (quotZ (toZ w64 (ofZ w64 (widened x +ℤ by))) (widened y))) +ℤ more)
+  result-fits = rw quotient-held result-within
 
-  pub result-is : toZ w64 (ofZ w64 (toZ w64 (ofZ w64 (quotZ (toZ w64 (ofZ w64 (widened x +ℤ by))) (widened y))) +ℤ then)) ≡ quotZ (x +ℤ by) y +ℤ then
-  result-is = rw divided (toZ-ofZ result-within)
+  pub result-is : toZ w64 (ofZ w64 (toZ w64 (ofZ w64 (quotZ (toZ w64 (ofZ w64 (widened x +ℤ by))) (widened y))) +ℤ more)) ≡ quotZ (x +ℤ by) y +ℤ more
+  result-is = rw quotient-held (toZ-ofZ result-within)

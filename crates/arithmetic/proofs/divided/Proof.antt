@@ -1,19 +1,18 @@
 -- `arithmetic::divided` meets its contract.
 use mathlib.Core.Path.{_≡_, sym, ap, _∙_}
-use mathlib.Core.Bool.{Bool}
 use Prim.Native.Nat.{_<_}
 use native.Mathlib.Omega.{arith}
-use lib.IntN.{ℤ, pos, negsuc, natAbs, _+ℤ_, _-ℤ_}
-use lib.Signed.{ltZ, quotZ}
+use lib.IntN.{ℤ, pos, natAbs}
+use lib.Signed.{quotZ}
 use mir.Syntax.{w32, w64}
 use mir.Val.{SFits, toZ, ofZ}
 use mir.Facts.{toZ-ofZ}
 use borrow.Author.Tests.{eqb-false}
 use Rattle.language.specs.Division.{quotient}
 use Rattle.language.proofs.Ints.{wide, widened, widened-is}
-use Rattle.operands.proofs.Ints.{wide-fits, wide-back, quotient-fits, wide-nonzero, abs-add}
+use Rattle.operands.proofs.Ints.{wide-fits, wide-back, quotient-fits, wide-nonzero}
 use Rattle.arithmetic.proofs.Division.{both-negative, none-negative, zero-divided, dividend-negative, divisor-negative}
-use Rattle.arithmetic.proofs.Division.{moved-fits, moved-quotient-fits, result-fits, result-is}
+use Rattle.arithmetic.proofs.Division.{sign, moved-fits, moved-quotient-fits, result-fits, result-is}
 use Rattle.arithmetic.proofs.divided.Statement.{statement}
 use Rattle.arithmetic.proofs.divided.Tie as tie
 
@@ -31,13 +30,6 @@ module _ (c : tie.Start) where
   back : toZ w64 (ofZ w64 (quotZ (widened (c .args .x)) (widened (c .args .y)))) ≡ quotZ (c .args .x) (c .args .y)
   back = wide-back quotZ (c .args .x) (c .args .y) (c .fits .x) (c .fits .y) (quotient-fits _ _ (c .fits .x))
 
-  -- the tests of their signs
-  sign-x : (t : Bool) → ltZ (widened (c .args .x)) (pos 0) ≡ t → ltZ (c .args .x) (pos 0) ≡ t
-  sign-x t h = rw (widened-is _ (c .fits .x)) at h
-
-  sign-y : (t : Bool) → ltZ (widened (c .args .y)) (pos 0) ≡ t → ltZ (c .args .y) (pos 0) ≡ t
-  sign-y t h = rw (widened-is _ (c .fits .y)) at h
-
 cast-a : tie.Need-cast-a
 cast-a c = rw (toZ-ofZ (c .fits .x)) (wide _ (c .fits .x))
 
@@ -50,7 +42,7 @@ div-result c = let s = c .before .before in (divisor s, fits s)
 returns : tie.Need-returns
 returns c =
     let s = c .before .before in
-    back s ∙ both-negative (s .args .x) (s .args .y) (sign-x s _ (c .before .if1 .taken)) (sign-y s _ (c .if2 .taken))
+    back s ∙ both-negative (s .args .x) (s .args .y) (sign (s .args .x) (s .fits .x) _ (c .before .if1 .taken)) (sign (s .args .y) (s .fits .y) _ (c .if2 .taken))
 
 add-result : tie.Need-add-result
 add-result c = let s = c .before .before in moved-fits (s .args .x) (s .args .y) _ (pos 0) (s .fits .x) (s .fits .y) (omega arith) (omega arith)
@@ -67,7 +59,7 @@ returns-2 : tie.Need-returns-2
 returns-2 c =
     let s = c .before .before in
     result-is (s .args .x) (s .args .y) _ _ (s .fits .x) (s .fits .y) (omega arith) (omega arith)
-    ∙ dividend-negative (s .args .x) (s .args .y) (nonzero s) (sign-x s _ (c .before .if1 .taken)) (sign-y s _ (c .if2 .left))
+    ∙ dividend-negative (s .args .x) (s .args .y) (nonzero s) (sign (s .args .x) (s .fits .x) _ (c .before .if1 .taken)) (sign (s .args .y) (s .fits .y) _ (c .if2 .left))
 
 returns-3 : tie.Need-returns-3
 returns-3 c =
@@ -91,7 +83,7 @@ returns-4 c =
     result-is (s .args .x) (s .args .y) _ _ (s .fits .x) (s .fits .y) (omega arith) (omega arith)
     ∙ divisor-negative (s .args .x) (s .args .y)
     (λ e. c .before .if3 .left (ap (λ (z : ℤ). ofZ w64 z) (ap (λ (z : ℤ). toZ w32 (ofZ w32 z)) e)))
-    (sign-x s _ (c .before .before .if1 .left)) (sign-y s _ (c .if4 .taken))
+    (sign (s .args .x) (s .fits .x) _ (c .before .before .if1 .left)) (sign (s .args .y) (s .fits .y) _ (c .if4 .taken))
 
 div-result-4 : tie.Need-div-result-4
 div-result-4 c = let s = c .before .before .before in (divisor s, fits s)
@@ -99,7 +91,7 @@ div-result-4 c = let s = c .before .before .before in (divisor s, fits s)
 returns-5 : tie.Need-returns-5
 returns-5 c =
     let s = c .before .before .before in
-    back s ∙ none-negative (s .args .x) (s .args .y) (sign-x s _ (c .before .before .if1 .left)) (sign-y s _ (c .if4 .left))
+    back s ∙ none-negative (s .args .x) (s .args .y) (sign (s .args .x) (s .fits .x) _ (c .before .before .if1 .left)) (sign (s .args .y) (s .fits .y) _ (c .if4 .left))
 
 pub divided-spec : {M : Type 1} → statement M
 divided-spec =
