@@ -27,24 +27,21 @@ static uint32_t counts[REC_LETTERS * REC_COUNTERS];
 static size_t counted; /* no counter's count lies here or after */
 static int32_t variables[REC_VARIABLES];
 
-/* A value right-justified in 12 columns. Its last eight digits are made at once, each a byte of a number, the first one lowest. */
+/* Units, a point and two digits of cents, to the right. The units' eight digits are made at once, each a byte of a number, the first one lowest. */
 static inline void write_value(uint8_t *to, int32_t value) {
-    uint32_t size = (uint32_t)(value < 0 ? -value : value), eight = size % 100000000;
-    uint64_t fours = eight / 10000 | (uint64_t)(eight % 10000) << 32;
+    uint32_t size = (uint32_t)(value < 0 ? -value : value), units = size / 100, cents = size % 100;
+    uint64_t fours = units / 10000 | (uint64_t)(units % 10000) << 32;
     uint64_t hundreds = (fours * 10486 >> 20) & 0x0000007f0000007f, twos = hundreds | (fours - 100 * hundreds) << 16;
     uint64_t tens = (twos * 103 >> 10) & 0x000f000f000f000f, digits = tens | (twos - 10 * tens) << 8;
-    uint8_t *sign = to + 2;
-    memset(to, ' ', 4);
-    if (size == eight) {
-        int zeros = __builtin_ctzll(digits | 1ull << 56) / 8;
-        digits -= 0x1010101010101010 & ((1ull << 8 * zeros) - 1); /* so that these become blanks */
-        sign = to + 3 + zeros;
-    } else {
-        to[3] = (uint8_t)('0' + size / 100000000);
-    }
+    int zeros = __builtin_ctzll(digits | 1ull << 56) / 8;
+    digits -= 0x1010101010101010 & ((1ull << 8 * zeros) - 1); /* so that these become blanks */
     digits += 0x3030303030303030;
-    memcpy(to + 4, &digits, 8);
-    if (value < 0) *sign = '-';
+    memset(to, ' ', REC_COLUMNS - 11);
+    memcpy(to + REC_COLUMNS - 11, &digits, 8);
+    if (value < 0) to[REC_COLUMNS - 12 + zeros] = '-';
+    to[REC_COLUMNS - 3] = '.';
+    to[REC_COLUMNS - 2] = (uint8_t)('0' + cents / 10);
+    to[REC_COLUMNS - 1] = (uint8_t)('0' + cents % 10);
 }
 
 /* Short ones by two copies that overlap. */
@@ -112,7 +109,7 @@ input: STEP; PUSH(*inputs++); GO(at + 1);
 constant: STEP; PUSH(at->value); GO(at + 2);
 fetch: STEP; PUSH(*at->variable); GO(at + 2);
 store: STEP; *at->variable = top; GO(at + 2);
-write_top: STEP; write_value(output, top); output += 12; GO(at + 1);
+write_top: STEP; write_value(output, top); output += REC_COLUMNS; GO(at + 1);
 newline: STEP; *output++ = '\n'; GO(at + 1);
 print: {
     size_t length = (size_t)at[1].value;

@@ -123,16 +123,19 @@ __attribute__((noinline)) static int32_t obey(const int32_t *cells, const size_t
         case 'O': {
             if (left == 0) { end = REC_SPENT; goto out; }
             if (height < 1) { end = REC_LIST_EMPTY; goto out; }
-            if (room - written < 12) { end = REC_PAPER_OUT; goto out; }
+            if (room - written < REC_COLUMNS) { end = REC_PAPER_OUT; goto out; }
             int64_t v = stack[height - 1];
-            uint64_t m = (uint64_t)(v < 0 ? -v : v);
+            uint64_t m = (uint64_t)(v < 0 ? -v : v), cents = m % 100;
             uint8_t *p = output + written;
-            memset(p, ' ', 12);
-            int k = 11;
-            for (; 9 < m; m /= 10) p[k--] = (uint8_t)('0' + m % 10);
+            memset(p, ' ', REC_COLUMNS);
+            p[REC_COLUMNS - 1] = (uint8_t)('0' + cents % 10);
+            p[REC_COLUMNS - 2] = (uint8_t)('0' + cents / 10);
+            p[REC_COLUMNS - 3] = '.';
+            int k = REC_COLUMNS - 4;
+            for (m /= 100; 9 < m; m /= 10) p[k--] = (uint8_t)('0' + m % 10);
             p[k] = (uint8_t)('0' + m);
             if (v < 0) p[k - 1] = '-';
-            written += 12; left--; at++;
+            written += REC_COLUMNS; left--; at++;
             break;
         }
         case 'X':

@@ -49,11 +49,11 @@ static int compare(const char *name, uint32_t allowance, int runs, int32_t numbe
 }
 
 /*
- * The close of a drawer: the float, 99 tickets one after the other, the totals, and the money. Variables: 1 the drawer, 2 and 4 how many tickets were
+ * The close of a drawer: the float, 97 tickets one after the other, the totals, and the money. Variables: 1 the drawer, 2 and 4 how many tickets were
  * paid and how much, 3 and 5 the same of cancelled ones, 6 the money, 8 the number of the ticket, 9 what v and q put aside.
  */
 static const struct { char letter; const char *text; } drawer[] = {
-    {'a', "(o ($99$ n (e c ; p ;) : ;) r w k ;)"},                              /* closes the drawer */
+    {'a', "(o ($97$ n (e c ; p ;) : ;) r w k ;)"},                              /* closes the drawer */
     {'o', "('/500000' S1 L '/0' S2 S3 S4 S5 S6 S8 L ;)"},                       /* the float, and totals of 0 */
     {'n', "(F8 y S8 '/50' * '/200' + i ;)"},                                    /* the next ticket: its stake */
     {'e', "(F8 '/9' v 0 L ; L )"},                                              /* is it a cancelled one? */
@@ -67,11 +67,12 @@ static const struct { char letter; const char *text; } drawer[] = {
     {'y', "('/1' + ;)"},                                                        /* one more */
     {'i', "(P F1 + S1 L ;)"},                                                   /* the top goes into the drawer */
     {'t', "(P F1 - M (N) S1 L ;)"},                                             /* the top comes out of it */
-    {'l', "(F8 O L z X ;)"},                                                    /* a ticket's line */
-    {'z', "(O L ;)"},                                                           /* a figure */
-    {'r', "(''PAID     ' F2 z F4 z X ''CANCELLED' F3 z F5 z X ;)"},             /* the totals */
-    {'q', "(O S9 L O F9 * O X F6 + S6 L ;)"},                                   /* notes or coins: how many, of which worth */
-    {'w', "('/41' '/5000' q '/63' '/1000' q '/38' '/500' q '/40' '/100' q '/6' '/50' q '/3' '/5' q ;)"},
+    {'l', "(F8 h z X ;)"},                                                      /* a ticket's line */
+    {'h', "('/100' * z ;)"},                                                    /* a count */
+    {'z', "(O L ;)"},                                                           /* an amount */
+    {'r', "(''PAID     ' F2 h F4 z X ''CANCELLED' F3 h F5 z X ;)"},             /* the totals */
+    {'q', "(O S9 L P h F9 * O X F6 + S6 L ;)"},                                 /* notes or coins: how many, of which worth */
+    {'w', "('/41' '/5000' q '/58' '/1000' q '/38' '/500' q '/39' '/100' q '/6' '/50' q '/3' '/5' q ;)"},
     {'k', "(F6 ''COUNTED ' O X F1 ''EXPECTED' O X - 0 S1 ''BALANCED' ; (N A ''SHORT   ' O ; ''OVER    ' O ;) )"}};
 
 /* whether all sides take the drawer's texts */

@@ -27,8 +27,8 @@ extern "C" {
 
 /* The version of this header and of the archive beside it. */
 #define REC_VERSION_MAJOR 1
-#define REC_VERSION_MINOR 5
-#define REC_VERSION "1.5"
+#define REC_VERSION_MINOR 6
+#define REC_VERSION "1.6"
 
 /* Document 01's limits. */
 #define REC_TEXT 256            /* bytes of a text */
@@ -39,6 +39,7 @@ extern "C" {
 #define REC_VARIABLES 10        /* variables of a store */
 #define REC_LIST 64             /* places of a run's list */
 #define REC_CALLS 100           /* calls within calls */
+#define REC_COLUMNS 14          /* bytes that `O` writes: units, a point and two digits of cents (document 02) */
 #define REC_VALUE_MAX 999999999 /* values lie from -REC_VALUE_MAX to REC_VALUE_MAX */
 
 /* Document 02's bounds of a dividend; each figure is at least 0. */

@@ -302,7 +302,7 @@ static void deep_run(void)
     expect(run, REC_LIST_FULL);
     define_as('m', "('/-999999999'f;)");
     expect(run, REC_DEEP_CALLS);
-    if (report.height != REC_LIST || report.written != 18 + 99 * 19)
+    if (report.height != REC_LIST || report.written != 6 + REC_COLUMNS + 99 * (7 + REC_COLUMNS))
         fail("the deep run is not full");
 }
 

@@ -164,10 +164,44 @@ void show_call(const struct call *call)
     putchar('\n');
 }
 
+bool fresh_three(struct random *r, struct three *t)
+{
+    rec_book_fresh(&t->book);
+    memset(&t->store, 0, sizeof t->store);
+    return fresh_engine(r, &t->engine);
+}
+
+bool call_three(struct random *r, struct three *t, const struct call *call)
+{
+    static struct side by_book, by_store;
+    bool good;
+    soil(r, &by_book);
+    by_store = t->got = by_book;
+    call_book(&t->book, call, &by_book);
+    call_store(&t->store, call, &by_store);
+    good = call_engine(&t->engine, call, &t->got);
+    good &= same_sides(&by_book, &t->got);
+    good &= same_sides(&by_store, &t->got);
+    good &= same_variables(t->book.variables, t->engine.variables);
+    if (!good)
+        show_call(call);
+    return good;
+}
+
+bool define_three(struct random *r, struct three *t, uint8_t letter, const char *words)
+{
+    static struct call call;
+    call.kind = DEFINE;
+    call.letter = letter;
+    text_clear(&call.text);
+    text_add(&call.text, words);
+    return call_three(r, t, &call) && same("number of a define", 0, 0, t->got.number);
+}
+
 void choose_loan(struct random *r, struct call *call)
 {
     static const size_t lists[] = {0, 63, 65, 1, 100};
-    static const size_t outputs[] = {11, 12, 13, 23, 24, 25, 36, 100, 4095, 4096, 5200};
+    static const size_t outputs[] = {13, 14, 15, 27, 28, 29, 42, 100, 4095, 4096, 5200};
     static const int32_t odd[] = {1000000000, -1000000000, INT32_MIN, INT32_MAX};
     call->input_length = below(r, chance(r, 85) ? 8 : INPUT_ROOM);
     for (size_t i = 0; i < call->input_length; i++)

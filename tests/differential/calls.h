@@ -26,6 +26,20 @@ bool same_variables(const int32_t *expected, const int32_t *got);
 bool same_tables(const struct rec_store *expected, const struct rec_store *got);
 void show_call(const struct call *call);
 
+/* The reference's book and store, which have ways of their own, and the engine's store. */
+struct three {
+    struct rec_book book;
+    struct rec_store store;
+    struct rec_store engine;
+    struct side got; /* of the engine's last call */
+};
+
+/* All of them fresh. The same call of all three, or a define of a text, which is
+ * accepted; false: they differ. */
+bool fresh_three(struct random *r, struct three *t);
+bool call_three(struct random *r, struct three *t, const struct call *call);
+bool define_three(struct random *r, struct three *t, uint8_t letter, const char *words);
+
 /* Inputs, list and output of a run, most of them good. */
 void choose_loan(struct random *r, struct call *call);
 

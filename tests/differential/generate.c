@@ -557,14 +557,14 @@ static void list_limit(struct session *s)
 static void paper_limit(struct session *s)
 {
     static const char *const marks[] = {"X", "O", "''x'", "'''", "''1234'", "L", "''123'",
-                                        "''12345'", "''12345678901'"};
+                                        "''12345'", "''1234567890123'"};
     struct text text;
     text_clear(&text);
     text_add(&text, chance(&s->r, 80) ? "('/-77'" : "(");
     if (chance(&s->r, 50)) {
         text_add(&text, "($");
-        text_number(&text, between(&s->r, 338, 342));
-        text_add(&text, chance(&s->r, 60) ? "$O:;)" : "$''123456789012':;)");
+        text_number(&text, between(&s->r, 290, 294));
+        text_add(&text, chance(&s->r, 60) ? "$O:;)" : "$''12345678901234':;)");
     } else {
         text_add(&text, "($");
         text_number(&text, between(&s->r, 4080, 4098));

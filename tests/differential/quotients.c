@@ -79,47 +79,10 @@ static bool counts(bool directed, bool full)
 
 /* ---- one comparison ---------------------------------------------------- */
 
-/* The reference's book and store, and the engine's store. */
-struct three {
-    struct rec_book book;
-    struct rec_store store;
-    struct rec_store engine;
-    struct side got;
-};
-
-static bool compare(struct random *r, struct three *t, const struct call *call)
-{
-    static struct side by_book, by_store;
-    bool good;
-    soil(r, &by_book);
-    by_store = t->got = by_book;
-    call_book(&t->book, call, &by_book);
-    call_store(&t->store, call, &by_store);
-    good = call_engine(&t->engine, call, &t->got);
-    good &= same_sides(&by_book, &t->got);
-    good &= same_sides(&by_store, &t->got);
-    good &= same_variables(t->book.variables, t->engine.variables);
-    if (!good)
-        show_call(call);
-    return good;
-}
-
-static bool define(struct random *r, struct three *t, const char *words)
-{
-    static struct call call;
-    call.kind = DEFINE;
-    call.letter = 'q';
-    text_clear(&call.text);
-    text_add(&call.text, words);
-    return compare(r, t, &call) && same("number of a define", 0, 0, t->got.number);
-}
-
 /* All of them fresh, with a text that divides its inputs pair by pair. */
 static bool start(struct random *r, struct three *t)
 {
-    rec_book_fresh(&t->book);
-    memset(&t->store, 0, sizeof t->store);
-    return fresh_engine(r, &t->engine) && define(r, t, "(II/:)");
+    return fresh_three(r, t) && define_three(r, t, 'q', "(II/:)");
 }
 
 /* "the greatest whole number not above the exact quotient": times the divisor it is not
@@ -147,7 +110,7 @@ static bool divide(struct random *r, struct three *t, struct call *call)
     call->allowance = 1000;
     call->list_length = REC_LIST;
     call->output_length = 0;
-    good = compare(r, t, call);
+    good = call_three(r, t, call);
     good &= same("number", 0, done < pairs ? REC_ZERO_DIVISOR : REC_NO_INPUT, t->got.number);
     good &= same("quotients", 0, (long long)(done < pairs ? done + 2 : done),
                  (long long)t->got.figures[2]);
@@ -190,9 +153,9 @@ static bool by_hand(struct random *r, struct three *t, struct call *call)
         call->input_length = 0;
         call->list_length = REC_LIST;
         call->output_length = 0;
-        good &= define(r, t, words) && compare(r, t, call);
+        good &= define_three(r, t, 'q', words) && call_three(r, t, call);
         good &= same("quotient of constants", (long long)i, known[i].q, t->got.list[0]);
-        good &= define(r, t, "(II/:)") && add(r, t, call, known[i].a, known[i].b);
+        good &= define_three(r, t, 'q', "(II/:)") && add(r, t, call, known[i].a, known[i].b);
         good &= divide(r, t, call);
         good &= same("quotient of inputs", (long long)i, known[i].q, t->got.list[0]);
     }

@@ -125,9 +125,10 @@ static void ends_of_a_run(void) {
     const int32_t inputs[] = {500, 340};
     fresh();
     HOLDS(define('p', "(I (N) (0) I * '/100' / S1 ''PAY' O ; ''NO PAY' )") == REC_FINISHED);
-    HOLDS(run('p', inputs, 2) == REC_FINISHED && figures(1, 11, 1, 2, 15) && lent.store.vars[1] == 1700);
+    HOLDS(run('p', inputs, 2) == REC_FINISHED && figures(1, 11, 1, 2, 3 + REC_COLUMNS) && lent.store.vars[1] == 1700);
+    HOLDS(memcmp(lent.paper, "PAY         17.00", 17) == 0 && all_bytes(lent.paper + 17, PAPER - 17, MARK));
     lent.store.vars[1] = 7;
-    HOLDS(run_for('p', 10, inputs, 2) == REC_SPENT && figures(0, 10, 1, 2, 15) && lent.store.vars[1] == 7);
+    HOLDS(run_for('p', 10, inputs, 2) == REC_SPENT && figures(0, 10, 1, 2, 3 + REC_COLUMNS) && lent.store.vars[1] == 7);
     HOLDS(run_for('p', 0, inputs, 2) == REC_SPENT && figures(0, 0, 0, 0, 0));
     HOLDS(run('p', inputs, 1) == REC_NO_INPUT && figures(0, 3, 1, 1, 0));
     HOLDS(define('l', "(:)") == REC_FINISHED);

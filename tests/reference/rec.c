@@ -568,16 +568,21 @@ static uint32_t write_bytes(struct obeying *o, const uint8_t *bytes, size_t leng
     return 0;
 }
 
+/* U6: "units, a point and two digits of cents, right-justified in 14 columns", set
+ * from the right, digit by digit; the point comes after two of them and the units
+ * have at least one. The longest is `-9999999.99`. */
 static uint32_t write_value(struct obeying *o, int32_t value)
 {
     uint8_t columns[REC_COLUMNS];
     size_t at = REC_COLUMNS;
     int32_t rest = value < 0 ? -value : value;
     memset(columns, ' ', sizeof columns);
-    do {
+    for (int digits = 0; digits <= REC_CENT_DIGITS || rest > 0; digits++) {
+        if (digits == REC_CENT_DIGITS)
+            columns[--at] = '.';
         columns[--at] = (uint8_t)('0' + rest % 10);
         rest /= 10;
-    } while (rest > 0);
+    }
     if (value < 0)
         columns[--at] = '-';
     return write_bytes(o, columns, sizeof columns);
@@ -1114,7 +1119,7 @@ static size_t paper(const struct view *v, int64_t at)
 {
     int64_t code = -cell(v, at);
     if (code == 'O')
-        return 12;
+        return REC_COLUMNS;
     if (code == 'X')
         return 1;
     return code == 167 ? (size_t)cell(v, at + 1) : 0;
@@ -1195,22 +1200,28 @@ static void type(struct machine *m, int64_t byte)
     m->answer.written++;
 }
 
-/* 12 columns, from the left: digits are found by powers of ten. */
+/* U6's columns from the left: units and cents are split, the digits of the units are
+ * found by powers of ten. The minus stands before the units, be they 0. */
 static void type_value(struct machine *m, int64_t value)
 {
     int64_t size = value < 0 ? -value : value;
+    int64_t units = size / REC_UNIT;
+    int64_t cents = size - units * REC_UNIT;
     int64_t power = 1;
-    int columns = 1;
-    while (size / power >= 10) {
+    int columns = 1 + 1 + REC_CENT_DIGITS; /* a unit, the point, the cents */
+    while (units / power >= 10) {
         power *= 10;
         columns++;
     }
-    for (int i = columns + (value < 0); i < 12; i++)
+    for (int i = columns + (value < 0); i < REC_COLUMNS; i++)
         type(m, ' ');
     if (value < 0)
         type(m, '-');
     for (; power > 0; power /= 10)
-        type(m, '0' + size / power % 10);
+        type(m, '0' + units / power % 10);
+    type(m, '.');
+    type(m, '0' + cents / 10);
+    type(m, '0' + cents % 10);
 }
 
 /* An operator, constant or print that no stop fits. */

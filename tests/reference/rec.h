@@ -1,4 +1,4 @@
-/* An independent implementation of document 01 and of U1, U2, U4 and U5 of
+/* An independent implementation of document 01 and of U1, U2, U4, U5 and U6 of
  * document 02, to compare the engine with.
  *
  * rec_read         reads a text: accepts it, or gives its first fault's number
@@ -10,7 +10,8 @@
  * rec_win_dividend what a pool pays its winners, the dividend by search (U4)
  *
  * The two ways to run share no code beside the limits below: the book divides by
- * search, the store by C's quotient, set right where U5 goes lower. */
+ * search, the store by C's quotient, set right where U5 goes lower; the book sets
+ * U6's columns from the right, the store from the left. */
 #ifndef REFERENCE_H
 #define REFERENCE_H
 
@@ -28,7 +29,9 @@ enum {
     REC_LIST = 64,
     REC_CALLS = 100,
     REC_VALUE = 999999999,
-    REC_COLUMNS = 12,
+    REC_COLUMNS = 14,       /* of `O`, U6 */
+    REC_UNIT = 100,         /* cents, U6 */
+    REC_CENT_DIGITS = 2,
     REC_POOL = 999999999,   /* cents */
     REC_RATE = 1000,        /* tenths of a percent */
     REC_WHOLE = 1000,       /* the rate that takes all */

@@ -14,7 +14,7 @@ use Rattle.language.specs.Decimals.{maxDigits, digits, decimal}
 use Rattle.language.specs.Grammar.{Digits, digitBytes, minusSign, valueFrom}
 use Rattle.language.specs.Tokens.{signed}
 use Rattle.language.proofs.GrammarMarks.{value-bound}
-use Rattle.numerals.proofs.Decimals.{room-for, many, few, digits-enough}
+use Rattle.language.proofs.Decimals.{room-for, many, few}
 use Rattle.numerals.proofs.Numerals.{digits-more, value-more, bytes-more, pow-up}
 use Rattle.faircopy.specs.Claims.{Plain}
 
@@ -115,6 +115,19 @@ digits-after (d ∷ ds) f v h k =
     ∙ digits-after ds (suc f) (10 * v + d) (omega arith) (k .1)
     ∙ ap (λ (l : List ℕ). l ++ digitBytes ds []) (digits-snoc f v d h (k .0))
     ∙ append-assoc (digits f v) (digitByte d ∷ []) (digitBytes ds [])
+
+-- A number of at most f digits has no more where one more is allowed.
+digits-enough : (f n : ℕ) → 1 ≤ f → n < 10 ^ f → digits (suc f) n ≡ digits f n
+digits-enough zero n h s = absurd (omega arith)
+digits-enough (suc f) n h s =
+    let p = pow-succ' 10 f in
+    go (ltb n 10) refl (λ g. digits-enough f (n / 10) (room-for n f g s) (omega arith))
+  where
+    go : (u : Bool) → ltb n 10 ≡ u → (9 < n → digits (suc f) (n / 10) ≡ digits f (n / 10)) → digits (suc (suc f)) n ≡ digits (suc f) n
+    go true e r = few (suc f) n (ltb-true n 10 e) ∙ sym (few f n (ltb-true n 10 e))
+    go false e r =
+        let g : 9 < n = ltb-false n 10 e in
+        many (suc f) n g ∙ ap (λ (d : List ℕ). d ++ (digitByte (n % 10) ∷ [])) (r g) ∙ sym (many f n g)
 
 -- more digits than there are change nothing
 digits-more-than : (j k n : ℕ) → 1 ≤ k → n < 10 ^ k → digits (j + k) n ≡ digits k n

@@ -46,7 +46,7 @@ figures f =
     padded lineWidth (pos (f .line)) ++ padded answerWidth (pos (f .answer)) ++ padded truthWidth (pos (bit (f .truth)))
     ++ padded stepsWidth (pos (f .steps)) ++ padded heightWidth (pos (f .height)) ++ padded topWidth (f .top) ++ (newlineByte ∷ [])
 
--- the most bytes of a line's figures: six numbers and a newline
+-- room for a line's figures: six numbers and a newline
 abbrev pub mostBytes : ℕ
 mostBytes = 6 * maxColumns + 1
 

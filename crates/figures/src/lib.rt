@@ -21,7 +21,7 @@ const HEIGHT_WIDTH: usize = 4;
 
 const TOP_WIDTH: usize = 11;
 
-// The most bytes of a line's figures: six numbers and a newline.
+// Room for a line's figures: six numbers and a newline.
 const MOST_BYTES: usize = 6 * COLUMNS + 1;
 
 // A line's figures.

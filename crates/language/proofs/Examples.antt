@@ -2,11 +2,12 @@
 use mathlib.Core.Path.{refl}
 use Rattle.language.specs.Reading.{read}
 use Rattle.language.specs.Values.{isValue}
+use Rattle.language.specs.Money.{readMoney}
 use Rattle.language.specs.Effects.{start, perform, ask}
 use Rattle.language.specs.Meaning.{meaning}
 use Rattle.language.specs.Machine.{decode, arrive, run}
 use Rattle.language.specs.Trials.{textAt, Hold}
-use Rattle.language.specs.Examples.{starred, faults, limits, layouts, decodings, effects, control, stops}
+use Rattle.language.specs.Examples.{starred, faults, limits, layouts, decodings, effects, slips, control, stops}
 
 -- document 01's starred examples
 pub starred-hold : Hold starred
@@ -32,6 +33,10 @@ decodings-hold = refl
 pub effects-hold : Hold effects
 unfolding read textAt start isValue perform ask meaning decode arrive run
 effects-hold = refl
+
+pub slips-hold : Hold slips
+unfolding readMoney
+slips-hold = refl
 
 pub control-hold : Hold control
 unfolding read textAt start isValue perform ask meaning decode arrive run

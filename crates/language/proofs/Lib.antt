@@ -26,3 +26,5 @@ pub mod Ints
 pub mod Tests
 pub mod Keys
 pub mod Copies
+pub mod Decimals
+pub mod Money

@@ -57,10 +57,12 @@ class-call a h =
     ap (λ u. cond u (calling (letterByte a - firstLetter)) (lookup classes stray (letterByte a))) (between-true firstLetter lastLetter (letterByte a) (omega arith) (omega arith))
     ∙ ap calling (omega arith)
 
-digit-true : (d : ℕ) → d < 10 → isDigit (digitByte d) ≡ true
+-- a digit's byte is a digit's
+pub digit-true : (d : ℕ) → d < 10 → isDigit (digitByte d) ≡ true
 digit-true d h = between-true (digitByte 0) (digitByte 9) (digitByte d) (omega arith) (omega arith)
 
-digit-of : (d : ℕ) → digitByte d - digitByte 0 ≡ d
+-- and says the digit
+pub digit-of : (d : ℕ) → digitByte d - digitByte 0 ≡ d
 digit-of d = omega arith
 
 -- ── forms ───────────────────────────────────────────────────────────────────────────────────────

@@ -1,5 +1,5 @@
 -- The bytes that document 01 writes as marks and in numbers, by name. Letters are in Letters, operators and conditions in Syntax.
-use Prim.Native.Nat.{ℕ, _+_}
+use Prim.Native.Nat.{ℕ, _+_, _-_}
 use mathlib.Core.Bool.{Bool}
 use Rattle.language.specs.Between.{between}
 
@@ -62,3 +62,7 @@ semicolonByte = 59
 -- the byte is a digit's
 abbrev pub isDigit : ℕ → Bool
 isDigit b = between (digitByte 0) (digitByte 9) b
+
+-- the digit of a digit's byte
+abbrev pub digitOf : ℕ → ℕ
+digitOf b = b - digitByte 0

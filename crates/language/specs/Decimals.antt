@@ -21,6 +21,10 @@ abbrev pub decimals : Bool → ℕ → List ℕ
 decimals true n = minusByte ∷ digits 10 n
 decimals false n = digits 10 n
 
+-- the most bytes of these: a `-` and ten digits
+abbrev pub maxDecimals : ℕ
+maxDecimals = 11
+
 -- the same, after a `-` where it is negative
 unfoldable pub decimal : ℤ → List ℕ
 unfolding digits

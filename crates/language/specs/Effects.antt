@@ -13,8 +13,9 @@ use Rattle.language.specs.declared.Ending.the-variants.{ListEmpty, ListF
 use Rattle.language.specs.Limits.{maxHeight, maxCounters, maxCalls, storeCounts, writeWidth, maxVariables}
 use Rattle.language.specs.Bytes.{newlineByte}
 use Rattle.language.specs.Values.{isValue}
-use Rattle.language.specs.Decimals.{padded}
+use Rattle.language.specs.Decimals.{justified}
 use Rattle.language.specs.Division.{quotient}
+use Rattle.language.specs.Money.{money}
 use Rattle.language.specs.Syntax.{Operator, absolute, discard, negate, copy, write, newline, input, add, subtract, multiply, divide, fetch, save}
 use Rattle.language.specs.Syntax.{negative, null, equal, Operation, operator, variable, constant, print, Predicate, condition, counter}
 
@@ -122,10 +123,10 @@ inked s b = withOutput s (paste (s .output) (s .written) b (length b)) (s .writt
 abbrev pub emitted : State → List ℕ → Effect
 emitted s b = cond (leb (s .written + length b) (length (s .output))) (goes (inked s b)) (stops PaperOut)
 
--- "`O` writes the top right-justified in 12 columns"
+-- Document 02, U6: "`O` shall write units, a point and two digits of cents, right-justified in 14 columns"
 unfoldable pub column : ℤ → List ℕ
-unfolding padded
-column v = padded writeWidth v
+unfolding justified money
+column v = justified writeWidth (money v)
 
 -- ── operations ──────────────────────────────────────────────────────────────────────────────────
 

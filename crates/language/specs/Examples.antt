@@ -11,7 +11,7 @@ use Rattle.language.specs.declared.Table.{Table}
 use Rattle.language.specs.Reading.{refused, accepted}
 use Rattle.language.specs.Layout.{cleared}
 use Rattle.language.specs.Machine.{transfer, fail, last, damaged, code, run}
-use Rattle.language.specs.Trials.{bytes, times, neg, zeros, Result, ends, halts, took, keeps, wrote, Example, refusedAs, gives, decodes, refuses, lays, fault, trial, within, once, fed, printing, calling, both}
+use Rattle.language.specs.Trials.{bytes, times, neg, zeros, Result, ends, halts, took, keeps, wrote, Example, refusedAs, gives, decodes, refuses, lays, fault, says, saysNone, trial, within, once, fed, printing, calling, both}
 
 -- ── document 01, "Examples", the starred ones ───────────────────────────────────────────────────
 
@@ -303,18 +303,61 @@ effects =
     -- "`I` pushes the next input."
     ∷ fed (pos 5 ∷ neg 7 ∷ []) "(II;)" (took 2 (ends true 3 (pos 5 ∷ neg 7 ∷ [])))
     ∷ fed (pos 5 ∷ neg 7 ∷ []) "(I;)" (took 1 (ends true 2 (pos 5 ∷ [])))
-    -- "`O` writes the top right-justified in 12 columns", "`X` a newline; a print writes its bytes"
-    ∷ printing 12 "('/0'O;)" (wrote "           0" (ends true 3 (pos 0 ∷ [])))
-    ∷ printing 12 "('/5'O;)" (wrote "           5" (ends true 3 (pos 5 ∷ [])))
-    ∷ printing 12 "('/-5'O;)" (wrote "          -5" (ends true 3 (neg 5 ∷ [])))
-    ∷ printing 12 "('/10'O;)" (wrote "          10" (ends true 3 (pos 10 ∷ [])))
-    ∷ printing 12 "('/987654321'O;)" (wrote "   987654321" (ends true 3 (pos 987654321 ∷ [])))
-    ∷ printing 12 "('/-999999999'O;)" (wrote "  -999999999" (ends true 3 (neg 999999999 ∷ [])))
+    -- Document 02, U6: "`O` shall write units, a point and two digits of cents, right-justified in 14 columns: 5 is `0.05`, -5 is `-0.05`, -1250 is
+    -- `-12.50`, 0 is `0.00`"
+    ∷ printing 14 "('/5'O;)" (wrote "          0.05" (ends true 3 (pos 5 ∷ [])))
+    ∷ printing 14 "('/-5'O;)" (wrote "         -0.05" (ends true 3 (neg 5 ∷ [])))
+    ∷ printing 14 "('/-1250'O;)" (wrote "        -12.50" (ends true 3 (neg 1250 ∷ [])))
+    ∷ printing 14 "('/0'O;)" (wrote "          0.00" (ends true 3 (pos 0 ∷ [])))
+    -- next to where the digits of cents, the units and their digits change
+    ∷ printing 14 "('/1'O;)" (wrote "          0.01" (ends true 3 (pos 1 ∷ [])))
+    ∷ printing 14 "('/-1'O;)" (wrote "         -0.01" (ends true 3 (neg 1 ∷ [])))
+    ∷ printing 14 "('/9'O;)" (wrote "          0.09" (ends true 3 (pos 9 ∷ [])))
+    ∷ printing 14 "('/10'O;)" (wrote "          0.10" (ends true 3 (pos 10 ∷ [])))
+    ∷ printing 14 "('/-10'O;)" (wrote "         -0.10" (ends true 3 (neg 10 ∷ [])))
+    ∷ printing 14 "('/99'O;)" (wrote "          0.99" (ends true 3 (pos 99 ∷ [])))
+    ∷ printing 14 "('/-99'O;)" (wrote "         -0.99" (ends true 3 (neg 99 ∷ [])))
+    ∷ printing 14 "('/100'O;)" (wrote "          1.00" (ends true 3 (pos 100 ∷ [])))
+    ∷ printing 14 "('/-100'O;)" (wrote "         -1.00" (ends true 3 (neg 100 ∷ [])))
+    ∷ printing 14 "('/101'O;)" (wrote "          1.01" (ends true 3 (pos 101 ∷ [])))
+    ∷ printing 14 "('/999'O;)" (wrote "          9.99" (ends true 3 (pos 999 ∷ [])))
+    ∷ printing 14 "('/1000'O;)" (wrote "         10.00" (ends true 3 (pos 1000 ∷ [])))
+    ∷ printing 14 "('/-1000'O;)" (wrote "        -10.00" (ends true 3 (neg 1000 ∷ [])))
+    ∷ printing 14 "('/1250'O;)" (wrote "         12.50" (ends true 3 (pos 1250 ∷ [])))
+    -- all digits, and the ends of the range
+    ∷ printing 14 "('/987654321'O;)" (wrote "    9876543.21" (ends true 3 (pos 987654321 ∷ [])))
+    ∷ printing 14 "('/999999999'O;)" (wrote "    9999999.99" (ends true 3 (pos 999999999 ∷ [])))
+    ∷ printing 14 "('/-999999999'O;)" (wrote "   -9999999.99" (ends true 3 (neg 999999999 ∷ [])))
+    -- "`X` a newline; a print writes its bytes"
     ∷ printing 1 "(X;)" (wrote "\n" (ends true 2 []))
     ∷ printing 9 "(''a ~'''b';)" (wrote "a ~b" (ends true 3 []))
     ∷ printing 0 "(''';)" (ends true 2 [])
-    ∷ printing 20 "('/-5'O''ab'XL;)" (wrote "          -5ab\n" (ends true 6 []))
+    ∷ printing 20 "('/-5'O''ab'XL;)" (wrote "         -0.05ab\n" (ends true 6 []))
     ∷ []
+
+-- ── slips ───────────────────────────────────────────────────────────────────────────────────────
+
+-- what is read where `O` has written, and what is not read
+abbrev pub slips : List Example
+slips =
+    -- in 14 columns, as `O` writes them
+    says "          0.05" (pos 5)
+    ∷ says "         -0.05" (neg 5)
+    ∷ says "        -12.50" (neg 1250)
+    ∷ says "          0.00" (pos 0)
+    ∷ says "    9999999.99" (pos 999999999)
+    ∷ says "   -9999999.99" (neg 999999999)
+    -- without blanks, and in another order of digits
+    ∷ says "1.23" (pos 123)
+    ∷ says "-3.21" (neg 321)
+    ∷ says "100.10" (pos 10010)
+    -- a zero more, and minus zero
+    ∷ says "00.05" (pos 5)
+    ∷ says "-0.00" (pos 0)
+    -- no units, no point, a point that is another byte, one digit of cents, three, none
+    ∷ map saysNone (".05" ∷ "-.05" ∷ "5" ∷ "005" ∷ "0,05" ∷ "0 05" ∷ "0.5" ∷ "0.050" ∷ "0." ∷ [])
+    -- a byte that is no digit in the units or the cents, a blank within or behind, two signs, another sign, a sign alone, nothing
+    ++ map saysNone ("0x.05" ∷ "0/.05" ∷ "0:.05" ∷ "0.x5" ∷ "0.5x" ∷ "0.-5" ∷ "- 0.05" ∷ "0 .05" ∷ "0.05 " ∷ "--0.05" ∷ "+0.05" ∷ " " ∷ "" ∷ "-" ∷ [])
 
 -- ── segments, counters and calls ────────────────────────────────────────────────────────────────
 
@@ -421,12 +464,14 @@ stops =
     ∷ once "(I;)" (halts 25 0 [])
     ∷ fed (pos 5 ∷ []) "(II;)" (took 1 (halts 25 1 (pos 5 ∷ [])))
     -- 26, "the bytes of a print, `O` or `X` do not all fit": nothing of them is written
-    ∷ printing 11 "('/-5'O;)" (halts 26 1 (neg 5 ∷ []))
+    ∷ printing 13 "('/-5'O;)" (halts 26 1 (neg 5 ∷ []))
+    ∷ printing 28 "('/-5'O'/70'O;)" (wrote "         -0.05          0.70" (ends true 5 (neg 5 ∷ pos 70 ∷ [])))
+    ∷ printing 27 "('/-5'O'/70'O;)" (wrote "         -0.05" (halts 26 3 (neg 5 ∷ pos 70 ∷ [])))
     ∷ printing 0 "(X;)" (halts 26 0 [])
     ∷ printing 2 "(''ab';)" (wrote "ab" (ends true 2 []))
     ∷ printing 1 "(''ab';)" (halts 26 0 [])
     ∷ printing 3 "(''ab'''cd';)" (wrote "ab" (halts 26 1 []))
-    ∷ printing 14 "('/-5'O''ab'XL;)" (wrote "          -5ab" (halts 26 3 (neg 5 ∷ [])))
+    ∷ printing 16 "('/-5'O''ab'XL;)" (wrote "         -0.05ab" (halts 26 3 (neg 5 ∷ [])))
     -- 27, "call of a cleared letter"
     ∷ once "(p;)" (halts 27 0 [])
     ∷ both "(b;)" "('/1'c;)" (halts 27 2 (pos 1 ∷ []))

@@ -12,6 +12,7 @@ pub mod Layout
 pub mod Reading
 pub mod Grammar
 pub mod Division
+pub mod Money
 pub mod Effects
 pub mod Meaning
 pub mod Machine

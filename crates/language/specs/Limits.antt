@@ -1,4 +1,4 @@
--- The limits of document 01. Those of a table are also the associated constants of `Table` in src/lib.rt.
+-- The limits of document 01, as amended by document 02. Those of a table are also the associated constants of `Table` in src/lib.rt.
 use Prim.Native.Nat.{ℕ, _*_}
 
 -- "A text has at most 256 bytes."
@@ -49,6 +49,6 @@ storeCells = maxLetters * maxCells
 abbrev pub storeCounts : ℕ
 storeCounts = maxLetters * maxCounters
 
--- "`O` writes the top right-justified in 12 columns"
+-- Document 02, U6: "right-justified in 14 columns" `WRITE_WIDTH`
 abbrev pub writeWidth : ℕ
-writeWidth = 12
+writeWidth = 14

@@ -1,25 +1,27 @@
 -- What is proved about the definitions, each statement with the name of its proof.
 use mathlib.Core.Path.{_≡_}
-use Prim.Native.Nat.{ℕ, suc, _≤_, _<_}
+use Prim.Native.Nat.{ℕ, suc, _+_, _≤_, _<_}
 use mathlib.Core.Bool.{Bool, true, false, cond, not}
 use mathlib.Core.Option.{Option, none, some}
 use mathlib.Core.List.{List, _∷_, _++_}
 use lib.IntN.{ℤ, pos}
 use lib.Signed.{_≤ℤ_}
-use lib.ListN.{length, getD, drop}
+use lib.ListN.{length, getD, take, drop}
 use lib.Dec.{eqb}
 use Rattle.language.specs.declared.Table.{Table}
 use Rattle.language.specs.declared.Refusal.{Refusal}
 use Rattle.language.specs.declared.Refusal.the-variants.{LongText, Unfinished}
+use Rattle.language.specs.declared.Ending.the-variants.{PaperOut}
 use Rattle.language.specs.Answers.{refusalNumber}
-use Rattle.language.specs.Limits.{maxText, maxCells, maxHeight}
-use Rattle.language.specs.Syntax.{Expr, close, semi, colon, operate, test, call, inner, operator, divide}
+use Rattle.language.specs.Limits.{maxText, maxCells, maxHeight, writeWidth}
+use Rattle.language.specs.Syntax.{Expr, close, semi, colon, operate, test, call, inner, operator, write, divide}
 use Rattle.language.specs.Values.{isValue}
 use Rattle.language.specs.Reading.{Reading, refused, accepted, read}
 use Rattle.language.specs.Grammar.{Spells, Within}
 use Rattle.language.specs.Layout.{afterOperation, afterPredicate, afterCall, afterExpr, falseExit, codeStart, usedCells, layout}
 use Rattle.language.specs.Division.{NotAbove, IsQuotient, quotient}
-use Rattle.language.specs.Effects.{State, start, goes, top, second, combined, perform}
+use Rattle.language.specs.Money.{readMoney}
+use Rattle.language.specs.Effects.{State, start, goes, stops, top, second, combined, column, perform}
 use Rattle.language.specs.Meaning.{Outcome, ended, stopped, meaning}
 use Rattle.language.specs.Machine.{Instruction, transfer, fail, operateAt, testAt, callAt, Decoded, last, code, cell, decode}
 use Rattle.language.specs.Tables.{tableAt, execute}
@@ -150,6 +152,36 @@ abbrev pub DividesDown : Type 0
 DividesDown =
     (s : State) (q : ℤ) → 2 ≤ s .height → isValue (second s) ≡ true → (top s ≡ pos 0 → ⊥) → IsQuotient (second s) (top s) q
     → perform (operator divide) s ≡ goes (combined s q)
+
+-- ── money ───────────────────────────────────────────────────────────────────────────────────────
+
+-- Document 02, U6: "right-justified in 14 columns": no value takes more of them, or fewer. proofs/Money `column-width`
+abbrev pub ColumnWidth : Type 0
+ColumnWidth = (v : ℤ) → length (column v) ≡ writeWidth
+
+-- Reading back what `O` wrote gives the value. proofs/Money `read-back`
+abbrev pub ReadBack : Type 0
+ReadBack = (v : ℤ) → isValue v ≡ true → readMoney (column v) ≡ some v
+
+-- So no two values look alike on the slip. proofs/Money `columns-differ`
+abbrev pub ColumnsDiffer : Type 0
+ColumnsDiffer = (v w : ℤ) → isValue v ≡ true → isValue w ≡ true → column v ≡ column w → v ≡ w
+
+-- From s to t, 14 bytes came to the written ones, and they read back as the top.
+pub record Shows (s t : State) : Type 0 where
+  pub longer : t .written ≡ s .written + writeWidth
+  pub reads : readMoney (take writeWidth (drop (s .written) (t .output))) ≡ some (top s)
+
+-- In a run so it is wherever `O` goes on over a value. "Paper out and the output length follow the new width." proofs/Money `shows-top`
+abbrev pub ShowsTop : Type 0
+ShowsTop = (s t : State) → isValue (top s) ≡ true → perform (operator write) s ≡ goes t → Shows s t
+
+-- And where the list is not empty, it stops the run by 26 exactly when fewer than 14 bytes are left. proofs/Money `paper-out-exactly`
+abbrev pub PaperOutExactly : Type 0
+PaperOutExactly =
+    (s : State) → 1 ≤ s .height
+    → (perform (operator write) s ≡ stops PaperOut → length (s .output) < s .written + writeWidth)
+    × (length (s .output) < s .written + writeWidth → perform (operator write) s ≡ stops PaperOut)
 
 -- ── the machine and the meaning ─────────────────────────────────────────────────────────────────
 

@@ -1,5 +1,5 @@
 -- The lexer: from the bytes of a text to its tokens, the marks of document 01. It stops at the first byte that breaks a form.
-use Prim.Native.Nat.{ℕ, zero, suc, _+_, _*_, _-_}
+use Prim.Native.Nat.{ℕ, zero, suc, _+_, _*_}
 use mathlib.Core.Bool.{Bool, true, false, cond}
 use mathlib.Core.List.{List, [], _∷_, _++_, map, reverse}
 use lib.IntN.{ℤ, pos, negℤ}
@@ -9,7 +9,7 @@ use Rattle.language.specs.declared.Refusal.the-variants.{StrayMark, BadC
 use Rattle.language.specs.Between.{between}
 use Rattle.language.specs.Lookup.{lookup}
 use Rattle.language.specs.Bytes.{blankByte, newlineByte, quoteByte, dollarByte, tickByte, openByte, closeByte, commaByte, minusByte, pointByte}
-use Rattle.language.specs.Bytes.{slashByte, digitByte, colonByte, semicolonByte, isDigit}
+use Rattle.language.specs.Bytes.{slashByte, colonByte, semicolonByte, isDigit, digitOf}
 use Rattle.language.specs.Letters.{isLetter, letterIndex}
 use Rattle.language.specs.Syntax.{Operator, operators, operatorByte, Access, accesses, accessByte, Condition, conditions, conditionByte}
 use Rattle.language.specs.Syntax.{Operation, operator, variable, constant, print}
@@ -131,7 +131,7 @@ numeral (constantForm s) v k = does (constant (signed s v)) ∷ k idle
 -- a byte of a number: a digit, its closing byte, or another
 unfoldable pub numbered : Bool → Bool → ℕ → Form → ℕ → ℕ → (Mode → List Token) → List Token
 unfolding unless numeral
-numbered true c b f n v k = unless (ltb n (mostDigits f)) (formFault f) (λ _. k (number f (suc n) (10 * v + (b - digitByte 0))))
+numbered true c b f n v k = unless (ltb n (mostDigits f)) (formFault f) (λ _. k (number f (suc n) (10 * v + digitOf b)))
 numbered false true b f n v k = unless (ltb 0 n) (formFault f) (λ _. numeral f v k)
 numbered false false b f n v k = fault (formFault f)
 
@@ -176,7 +176,7 @@ scan idle b k = first (class b) k
 scan comment b k = commented (eqb b quoteByte) (commentByte b) k
 scan after-tick b k = ticked (eqb b tickByte) (eqb b slashByte) k
 scan after-slash b k = slashed (eqb b minusByte) b k
-scan (after-access a) b k = accessed (isDigit b) a (b - digitByte 0) k
+scan (after-access a) b k = accessed (isDigit b) a (digitOf b) k
 scan (number f n v) b k = scanNumber f n v b k
 scan (printing l) b k = printed (eqb b tickByte) (printByte b) b l k
 

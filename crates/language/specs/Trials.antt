@@ -16,6 +16,7 @@ use Rattle.language.specs.Letters.{letterIndex}
 use Rattle.language.specs.Syntax.{Expr}
 use Rattle.language.specs.Reading.{Reading, refused, accepted, read, exprOf}
 use Rattle.language.specs.Layout.{layout, cleared, codeStart}
+use Rattle.language.specs.Money.{readMoney}
 use Rattle.language.specs.Effects.{State, start}
 use Rattle.language.specs.Meaning.{Outcome, ended, stopped, meaning}
 use Rattle.language.specs.Machine.{Decoded, decode, arrive, run}
@@ -171,13 +172,14 @@ machined x =
 -- ── examples ────────────────────────────────────────────────────────────────────────────────────
 
 -- A text's table, all 250 cells of it, where these are used; the number that a text is refused with, 0 if it is accepted; a run's result, by the
--- nested meaning and by the table machine; what a cell of a table says; whether a number refuses.
+-- nested meaning and by the table machine; what a cell of a table says; whether a number refuses; what the bytes of a slip are read as.
 pub data Example : Type 0 where
   laidOut : List ℕ → List ℤ → Example
   refusedAs : List ℕ → ℕ → Example
   gives : Trial → Result → Example
   decodes : Table → ℕ → Decoded → Example
   refuses : ℕ → Bool → Example
+  readAs : List ℕ → Option ℤ → Example
 
 -- the used cells and all cells of an accepted text
 abbrev pub tableIn : Reading → ℕ × List ℤ
@@ -196,6 +198,7 @@ pub data Given : Type 0 where
   results : Result → Result → Given
   decoded : Decoded → Given
   refusing : Bool → Given
+  amountOf : Option ℤ → Given
 
 -- what an example gives
 abbrev pub given : Example → Given
@@ -204,6 +207,7 @@ given (refusedAs t k) = number (numberIn (read t))
 given (gives x r) = results (resultOf (x .allowance) (meant x)) (resultOf (x .allowance) (machined x))
 given (decodes t q d) = decoded (decode t q)
 given (refuses k b) = refusing (isRefusal k)
+given (readAs b v) = amountOf (readMoney b)
 
 -- what it should give; "The other cells of the letter's 250 are 0."
 abbrev pub due : Example → Given
@@ -212,6 +216,7 @@ due (refusedAs t k) = number k
 due (gives x r) = results r r
 due (decodes t q d) = decoded d
 due (refuses k b) = refusing b
+due (readAs b v) = amountOf v
 
 -- every example gives what it should
 abbrev pub Hold : List Example → Type 0
@@ -224,6 +229,14 @@ lays t c = laidOut (bytes t) (pos 2000 ∷ c)
 -- a text in plain characters and the number that it is refused with
 abbrev pub fault : String → ℕ → Example
 fault t k = refusedAs (bytes t) k
+
+-- the bytes of a slip in plain characters, and the cents that they say
+abbrev pub says : String → ℤ → Example
+says b v = readAs (bytes b) (some v)
+
+-- bytes that say no amount
+abbrev pub saysNone : String → Example
+saysNone b = readAs (bytes b) none
 
 -- a text under the letter t, run with an allowance, inputs and room for output
 abbrev pub trial : List ℕ → ℕ → List ℤ → ℕ → Result → Example

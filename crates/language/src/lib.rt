@@ -27,8 +27,8 @@ pub const MOST_VALUE: i32 = 999999999;
 // The least of them.
 pub const LEAST_VALUE: i32 = -999999999;
 
-// "`O` writes the top right-justified in 12 columns"
-pub const WRITE_WIDTH: usize = 12;
+// Document 02, U6: "right-justified in 14 columns"
+pub const WRITE_WIDTH: usize = 14;
 
 // The code of a constant, which its cell holds negated: "(byte of `/` or `'` plus 128)".
 pub const CONSTANT_CODE: u8 = b'/' + 128;

@@ -1,19 +1,22 @@
--- Decimal digits: written from the right into columns, their number, and a value by its sign and its distance from 0.
+-- Decimal digits: written from the right into columns, their number, a value by its sign and its distance from 0, and money.
 use mathlib.Core.Path.{_≡_, refl, sym, ap, _∙_}
-use mathlib.Core.Bool.{Bool, true, false, cond}
-use mathlib.Core.List.{List, [], _∷_, _++_, append-nil}
-use Prim.Native.Nat.{ℕ, zero, suc, _-_, _/_, _%_, _^_, _<_, _≤_}
+use mathlib.Core.Bool.{Bool, true, false}
+use mathlib.Core.List.{List, _∷_, _++_}
+use Prim.Native.Nat.{ℕ, zero, suc, _+_, _*_, _-_, _/_, _%_, _^_, _<_, _≤_}
 use native.Mathlib.Nat.{pow-succ'}
 use native.Mathlib.Omega.{arith}
 use lib.IntN.{ℤ, pos, negsuc, natAbs}
-use lib.Dec.{ltb}
 use lib.Signed.{ltZ}
 use lib.ListN.{length, set, take, drop, replicate, length-set, length-append, length-drop, length-replicate, take-append-drop}
 use lib.Seq.{append-snoc, drop-cons, drop-set-lt, getD-set-same, take-set-le, take-take}
-use borrow.Author.Tests.{lt-ltb, le-ltb, ltb-true, ltb-false}
-use Rattle.language.specs.Decimals.{digits, decimals, decimal, justified, padded}
+use borrow.Author.Tests.{le-ltb}
+use Rattle.language.specs.Decimals.{digits, decimals, maxDecimals, decimal, justified, padded}
 use Rattle.language.specs.Bytes.{blankByte, digitByte, minusByte}
-use Rattle.numerals.specs.Numerals.{maxColumns, Ends}
+use Rattle.language.specs.Limits.{writeWidth}
+use Rattle.language.specs.Money.{unitCents, pointed, amount, money}
+use Rattle.language.specs.Effects.{column}
+use Rattle.language.proofs.Decimals.{room-for, many, few, length-decimals}
+use Rattle.numerals.specs.Numerals.{maxColumns, pointColumn, Ends, Roomy}
 
 -- ── from the right ──────────────────────────────────────────────────────────────────────────────
 
@@ -41,85 +44,101 @@ put text k x d e =
           ∙ ap (λ (l : List ℕ). x ∷ l) (drop-set-lt (suc k) text k x (omega arith) ∙ e .rest);
     }
 
--- a `-` before them
-pub signed : (text : List ℕ) (k : ℕ) (d : List ℕ) → 1 ≤ k → Ends text k d → Ends (set text (k - 1) minusByte) (k - 1) (minusByte ∷ d)
-signed text zero d h e = absurd (omega arith)
-signed text (suc k) d h e = let a : k ≡ suc k - 1 = omega arith in rw (← a) (put text k minusByte d e)
-
--- The digits of w are those of n, which has at most k, and then those that stand after column k.
-pub record Rendering (w : ℕ) (text : List ℕ) (n k : ℕ) : Type 0 where
-  pub low : 1 ≤ k
+-- What is to stand, the digits of w and then the bytes d, are the digits of n, of which there are at most `most`, and then those that stand after
+-- column k.
+pub record Rendering (w : ℕ) (d text : List ℕ) (n k : ℕ) : Type 0 where
+  pub most : ℕ
+  pub low : 1 ≤ most
+  pub room : most ≤ k
   pub high : k < maxColumns
-  pub small : n < 10 ^ k
+  pub small : n < 10 ^ most
   pub done : List ℕ
   pub ends : Ends text (suc k) done
-  pub left : digits k n ++ done ≡ digits 10 w
-
--- with 10 or more there are two digits at least
-pub room-for : (n f : ℕ) → 9 < n → n < 10 ^ suc f → 1 ≤ f
-room-for n zero h s = absurd (omega arith)
-room-for n (suc f) h s = omega arith
-
-pub many : (f n : ℕ) → 9 < n → digits (suc f) n ≡ digits f (n / 10) ++ (digitByte (n % 10) ∷ [])
-unfolding digits
-many f n h = rw (le-ltb n 10 h)
-
-pub few : (f n : ℕ) → n < 10 → digits (suc f) n ≡ digitByte n ∷ []
-unfolding digits
-few f n h = rw (lt-ltb n 10 h)
-
--- A number of at most f digits has no more where one more is allowed.
-pub digits-enough : (f n : ℕ) → 1 ≤ f → n < 10 ^ f → digits (suc f) n ≡ digits f n
-digits-enough zero n h s = absurd (omega arith)
-digits-enough (suc f) n h s =
-    let p = pow-succ' 10 f in
-    go (ltb n 10) refl (λ g. digits-enough f (n / 10) (room-for n f g s) (omega arith))
-  where
-    go : (u : Bool) → ltb n 10 ≡ u → (9 < n → digits (suc f) (n / 10) ≡ digits f (n / 10)) → digits (suc (suc f)) n ≡ digits (suc f) n
-    go true e r = few (suc f) n (ltb-true n 10 e) ∙ sym (few f n (ltb-true n 10 e))
-    go false e r =
-        let g : 9 < n = ltb-false n 10 e in
-        many (suc f) n g ∙ ap (λ (d : List ℕ). d ++ (digitByte (n % 10) ∷ [])) (r g) ∙ sym (many f n g)
+  pub left : digits most n ++ done ≡ digits 10 w ++ d
 
 -- no digit yet
-pub begin : (w : ℕ) → w < 10 ^ 10 → Rendering w (replicate maxColumns blankByte) w 11
-begin w h =
+pub begin : (w : ℕ) (text : List ℕ) (k : ℕ) → w < 10 ^ 10 → Roomy text k → Rendering w (drop k text) text w (k - 1)
+begin w text zero h r = absurd (omega (arith, r .fits))
+begin w text (suc k) h r =
+    let e : k ≡ suc k - 1 = omega arith in
+    rw (← e)
     record {
+      most = 10;
       low = omega arith;
-      high = omega arith;
-      small = omega arith;
-      done = [];
-      ends = record { columns = refl; room = omega arith; blanks = refl; rest = refl };
-      left = append-nil (digits 11 w) ∙ digits-enough 10 w (omega arith) h;
+      room = omega (arith, r .fits);
+      high = omega (arith, r .ends .room);
+      small = h;
+      done = drop (suc k) text;
+      ends = r .ends;
+      left = refl;
     }
 
-step-at : (w : ℕ) (text : List ℕ) (n f : ℕ) → Rendering w text n (suc f) → 9 < n → Rendering w (set text (suc f) (digitByte (n % 10))) (n / 10) f
-step-at w text n f r h =
+step-at : (w : ℕ) (d text : List ℕ) (n k f : ℕ) (done : List ℕ) → suc f ≤ suc k → suc k < maxColumns → n < 10 ^ suc f → Ends text (suc (suc k)) done
+    → digits (suc f) n ++ done ≡ digits 10 w ++ d → 9 < n → Rendering w d (set text (suc k) (digitByte (n % 10))) (n / 10) k
+step-at w d text n k f done r g s e l h =
     let p = pow-succ' 10 f in
-    let s = r .small in
     record {
+      most = f;
       low = room-for n f h s;
-      high = omega (arith, r .high);
+      room = omega arith;
+      high = omega arith;
       small = omega arith;
-      done = digitByte (n % 10) ∷ r .done;
-      ends = put text (suc f) (digitByte (n % 10)) (r .done) (r .ends);
+      done = digitByte (n % 10) ∷ done;
+      ends = put text (suc k) (digitByte (n % 10)) done e;
       left =
-          sym (append-snoc (digits f (n / 10)) (digitByte (n % 10)) (r .done))
-          ∙ ap (λ (d : List ℕ). d ++ r .done) (sym (many f n h))
-          ∙ r .left;
+          sym (append-snoc (digits f (n / 10)) (digitByte (n % 10)) done)
+          ∙ ap (λ (b : List ℕ). b ++ done) (sym (many f n h))
+          ∙ l;
     }
 
 -- one digit more
-pub step : (w : ℕ) (text : List ℕ) (n k : ℕ) → Rendering w text n k → 9 < n → Rendering w (set text k (digitByte (n % 10))) (n / 10) (k - 1)
-step w text n zero r h = absurd (omega (arith, r .low))
-step w text n (suc f) r h = let e : f ≡ suc f - 1 = omega arith in rw (← e) (step-at w text n f r h)
+pub step : (w : ℕ) (d text : List ℕ) (n k : ℕ) → Rendering w d text n k → 9 < n → Rendering w d (set text k (digitByte (n % 10))) (n / 10) (k - 1)
+step w d text n k r h = go k (r .most) (r .low) (r .room) (r .high) (r .small) (r .ends) (r .left)
+  where
+    go : (k f : ℕ) → 1 ≤ f → f ≤ k → k < maxColumns → n < 10 ^ f → Ends text (suc k) (r .done) → digits f n ++ r .done ≡ digits 10 w ++ d
+        → Rendering w d (set text k (digitByte (n % 10))) (n / 10) (k - 1)
+    go k zero l m g s e t = absurd (omega arith)
+    go zero (suc f) l m g s e t = absurd (omega arith)
+    go (suc k) (suc f) l m g s e t = let q : k ≡ suc k - 1 = omega arith in rw (← q) (step-at w d text n k f (r .done) m g s e t h)
+
+-- two digits more
+pub two-steps : (w : ℕ) (d text : List ℕ) (n k : ℕ) → Rendering w d text n k → 99 < n
+    → Rendering w d (set (set text k (digitByte (n % 100 % 10))) (k - 1) (digitByte (n % 100 / 10))) (n / 100) (k - 2)
+two-steps w d text n k r h =
+    let m : n / 10 ≡ 10 * (n / 100) + n % 100 / 10 = omega arith in
+    let a : n % 100 % 10 ≡ n % 10 = omega (arith, m) in
+    let c : n / 100 ≡ n / 10 / 10 = omega (arith, m) in
+    let b : n % 100 / 10 ≡ n / 10 % 10 = omega (arith, m, c) in
+    let e : k - 2 ≡ k - 1 - 1 = omega arith in
+    rw (a, b, c, e) (step w d _ (n / 10) (k - 1) (step w d text n k r (omega arith)) (omega arith))
 
 -- the last digit
-pub last : (w : ℕ) (text : List ℕ) (n k : ℕ) → Rendering w text n k → n < 10 → Ends (set text k (digitByte n)) k (digits 10 w)
-last w text n zero r h = absurd (omega (arith, r .low))
-last w text n (suc f) r h =
-    let e : digitByte n ∷ r .done ≡ digits 10 w = ap (λ (d : List ℕ). d ++ r .done) (sym (few f n h)) ∙ r .left in
-    rw (← e) (put text (suc f) (digitByte n) (r .done) (r .ends))
+pub last : (w : ℕ) (d text : List ℕ) (n k : ℕ) → Rendering w d text n k → n < 10 → Ends (set text k (digitByte n)) k (digits 10 w ++ d)
+last w d text n k r h = go (r .most) (r .low) (r .left)
+  where
+    go : (f : ℕ) → 1 ≤ f → digits f n ++ r .done ≡ digits 10 w ++ d → Ends (set text k (digitByte n)) k (digits 10 w ++ d)
+    go zero l t = absurd (omega arith)
+    go (suc f) l t =
+        let e : digitByte n ∷ r .done ≡ digits 10 w ++ d = ap (λ (b : List ℕ). b ++ r .done) (sym (few f n h)) ∙ t in
+        rw (← e) (put text k (digitByte n) (r .done) (r .ends))
+
+-- the last two
+pub last-two : (w : ℕ) (d text : List ℕ) (n k : ℕ) → Rendering w d text n k → 9 < n → n < 100
+    → Ends (set (set text k (digitByte (n % 10))) (k - 1) (digitByte (n / 10))) (k - 1) (digits 10 w ++ d)
+last-two w d text n k r h l = last w d _ (n / 10) (k - 1) (step w d text n k r h) (omega arith)
+
+-- a `-` before them
+pub minus-put : (text : List ℕ) (k : ℕ) (d : List ℕ) → 1 ≤ k → Ends text k d → Ends (set text (k - 1) minusByte) (k - 1) (minusByte ∷ d)
+minus-put text zero d h e = absurd (omega arith)
+minus-put text (suc k) d h e = let a : k ≡ suc k - 1 = omega arith in rw (← a) (put text k minusByte d e)
+
+-- the last two, and a `-` before them
+pub last-two-minus : (w : ℕ) (d text : List ℕ) (n k : ℕ) → Rendering w d text n k → 9 < n → n < 100
+    → Ends (set (set (set text k (digitByte (n % 10))) (k - 1) (digitByte (n / 10))) (k - 2) minusByte) (k - 2) (minusByte ∷ digits 10 w ++ d)
+last-two-minus w d text n k r h l =
+    let s = step w d text n k r h in
+    let e : k - 2 ≡ k - 1 - 1 = omega arith in
+    rw e (minus-put _ (k - 1) _ (omega (arith, s .low, s .room)) (last-two w d text n k r h l))
 
 -- the columns that the bytes take
 pub ends-length : (text : List ℕ) (k : ℕ) (d : List ℕ) → Ends text k d → length d ≡ maxColumns - k
@@ -134,32 +153,7 @@ whole text k d e =
 
 -- ── how many ────────────────────────────────────────────────────────────────────────────────────
 
-length-digits : (f n : ℕ) → length (digits f n) ≤ f
-unfolding digits
-length-digits zero n = omega arith
-length-digits (suc f) n = go (ltb n 10) (length-digits f (n / 10))
-  where
-    go : (u : Bool) → length (digits f (n / 10)) ≤ f → length (cond u (digitByte n ∷ []) (digits f (n / 10) ++ (digitByte (n % 10) ∷ []))) ≤ suc f
-    go true h = omega arith
-    go false h = omega (arith, length-append (digits f (n / 10)) (digitByte (n % 10) ∷ []))
-
-length-decimals : (m : Bool) (n : ℕ) → length (decimals m n) ≤ maxColumns
-length-decimals true n = omega (arith, length-digits 10 n)
-length-decimals false n = omega (arith, length-digits 10 n)
-
--- A number takes the columns of its width where that is as many as a number is rendered in.
-length-justified : (w : ℕ) (m : Bool) (n : ℕ) → maxColumns ≤ w → length (justified w (decimals m n)) ≡ w
-unfolding justified
-length-justified w m n h =
-    simp (length-append, length-replicate) (omega (arith, length-decimals m n))
-
--- The same for a value.
-pub length-padded : (w : ℕ) (v : ℤ) → maxColumns ≤ w → length (padded w v) ≡ w
-unfolding padded decimal
-length-padded w (pos n) h = length-justified w false n h
-length-padded w (negsuc n) h = length-justified w true (suc n) h
-
--- In a narrower width it takes at most as many as a number is rendered in.
+-- In a width that is no more than a number is rendered in it takes at most so many.
 pub justified-most : (w : ℕ) (m : Bool) (n : ℕ) → w ≤ maxColumns → length (justified w (decimals m n)) ≤ maxColumns
 unfolding justified
 justified-most w m n h =
@@ -173,13 +167,38 @@ padded-most w (negsuc n) h = justified-most w true (suc n) h
 
 -- ── a value ─────────────────────────────────────────────────────────────────────────────────────
 
--- A value's bytes are those of its distance from 0, after a `-` where it is negative.
-pub by-sign : (v : ℤ) → decimals (ltZ v (pos 0)) (natAbs v) ≡ decimal v
+-- What holds of no `-` and a number, and of a `-` and a number that is not 0, holds of a value's sign and its distance from 0.
+by-sign : (P : Bool → ℕ → ℤ → Type 0) → ((n : ℕ) → P false n (pos n)) → ((n : ℕ) → P true (suc n) (negsuc n)) → (v : ℤ) → P (ltZ v (pos 0)) (natAbs v) v
+by-sign P f g (pos n) = rw (le-ltb n 0 (omega arith)) (f n)
+by-sign P f g (negsuc n) = g n
+
+-- a value in decimals
+decimal-by-sign : (v : ℤ) → decimals (ltZ v (pos 0)) (natAbs v) ≡ decimal v
 unfolding decimal
-by-sign (pos n) = ap (λ t. decimals t n) (le-ltb n 0 (omega arith))
-by-sign (negsuc n) = refl
+decimal-by-sign v = by-sign (λ m n w. decimals m n ≡ decimal w) (λ n. refl) (λ n. refl) v
 
 -- the same in a width
 pub by-distance : (w : ℕ) (v : ℤ) (n : ℕ) → n ≡ natAbs v → justified w (decimals (ltZ v (pos 0)) n) ≡ padded w v
 unfolding padded
-by-distance w v n e = ap (λ k. justified w (decimals (ltZ v (pos 0)) k)) e ∙ ap (justified w) (by-sign v)
+by-distance w v n e = ap (λ k. justified w (decimals (ltZ v (pos 0)) k)) e ∙ ap (justified w) (decimal-by-sign v)
+
+-- ── money ───────────────────────────────────────────────────────────────────────────────────────
+
+-- a value as units and cents
+money-by-sign : (v : ℤ) → amount (ltZ v (pos 0)) (natAbs v) ≡ money v
+unfolding money
+money-by-sign v = by-sign (λ m n w. amount m n ≡ money w) (λ n. refl) (λ n. refl) v
+
+-- room for them before the point
+pub roomy : (text : List ℕ) (k : ℕ) (d : List ℕ) → maxDecimals ≤ k → Ends text k d → Roomy text k
+roomy text k d h e = record { fits = h; ends = record { columns = e .columns; room = e .room; blanks = e .blanks; rest = refl } }
+
+-- the units before the point and the cents
+pub money-whole : (v : ℤ) (n : ℕ) (cents text : List ℕ) (k : ℕ) → n ≡ natAbs v → Ends cents pointColumn (pointed (n % unitCents))
+    → Ends text k (decimals (ltZ v (pos 0)) (n / unitCents) ++ drop pointColumn cents) → text ≡ column v
+unfolding column
+money-whole v n cents text k h e f =
+    whole text k _ f
+    ∙ ap (λ (d : List ℕ). justified writeWidth (decimals (ltZ v (pos 0)) (n / unitCents) ++ d)) (e .rest)
+    ∙ ap (λ (m : ℕ). justified writeWidth (amount (ltZ v (pos 0)) m)) h
+    ∙ ap (justified writeWidth) (money-by-sign v)

@@ -1,6 +1,6 @@
 -- Numbers as decimal bytes: read from a text, and written into a buffer.
 use mathlib.Core.Path.{_≡_}
-use Prim.Native.Nat.{ℕ, _+_, _^_, _≤_, _<_}
+use Prim.Native.Nat.{ℕ, _+_, _-_, _^_, _≤_, _<_}
 use mathlib.Core.Bool.{Bool, false, cond}
 use mathlib.Core.List.{List}
 use lib.IntN.{ℤ, pos}
@@ -8,7 +8,7 @@ use lib.ListN.{length, getD, take, drop, replicate}
 use lib.Seq.{paste}
 use lib.Dec.{leb}
 use Rattle.language.specs.Limits.{maxValue, writeWidth}
-use Rattle.language.specs.Decimals.{maxDigits}
+use Rattle.language.specs.Decimals.{maxDigits, maxDecimals}
 use Rattle.language.specs.Bytes.{blankByte, isDigit}
 use Rattle.language.specs.Tokens.{signed}
 use Rattle.language.specs.Grammar.{Digits, digitBytes, valueFrom}
@@ -71,9 +71,13 @@ delivered short o b = cond (leb (length b) (length o)) (delivers 0 (length b) (p
 
 -- ── columns ─────────────────────────────────────────────────────────────────────────────────────
 
--- the columns that a number is rendered in: a `-` and ten digits fit
+-- the columns that a number is rendered in: a `-` and ten digits fit, and a point and two digits after them
 abbrev pub maxColumns : ℕ
 maxColumns = writeWidth
+
+-- the column of the point: two digits stand after it
+abbrev pub pointColumn : ℕ
+pointColumn = maxColumns - 3
 
 -- the bytes d are the last of a text of so many columns, from place k on, and blanks stand before them
 pub record Ends (text : List ℕ) (k : ℕ) (d : List ℕ) : Type 0 where
@@ -81,3 +85,8 @@ pub record Ends (text : List ℕ) (k : ℕ) (d : List ℕ) : Type 0 where
   pub room : k ≤ maxColumns
   pub blanks : take k text ≡ replicate k blankByte
   pub rest : drop k text ≡ d
+
+-- blanks stand before place k of a text of so many columns, and a `-` and ten digits fit there
+pub record Roomy (text : List ℕ) (k : ℕ) : Type 0 where
+  pub fits : maxDecimals ≤ k
+  pub ends : Ends text k (drop k text)

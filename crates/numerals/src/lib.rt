@@ -1,23 +1,31 @@
-// Numbers to decimal bytes in a given width, and back.
+// Numbers to decimal bytes in a given width, and back; money with a point.
 use language::MOST_VALUE;
 use language::WRITE_WIDTH;
 ghost use mathlib.Core.Path.{_≡_};
+ghost use mathlib.Core.List.{_++_};
 ghost use Prim.Native.Nat.{_+_, _-_, _<_};
 ghost use lib.Dec.{leb};
 ghost use lib.IntN.{natAbs};
-ghost use lib.ListN.{replicate};
-ghost use Rattle.language.specs.Limits.{writeWidth};
+ghost use lib.ListN.{drop, replicate};
 ghost use Rattle.language.specs.Decimals.{decimals, justified, padded};
+ghost use Rattle.language.specs.Money.{unitCents, pointed};
+ghost use Rattle.language.specs.Effects.{column};
 ghost use Rattle.language.specs.Bytes.{blankByte, digitByte};
-ghost use Rattle.numerals.specs.Numerals.{Reads, valueOf, Ends, wrote, written};
+ghost use Rattle.numerals.specs.Numerals.{Reads, valueOf, pointColumn, Ends, Roomy, wrote, written};
 
 // The most digits that are read as one number.
 pub const DIGITS: usize = 9;
 
 const MOST: u32 = MOST_VALUE as u32;
 
-// The columns that a number is rendered in: a `-` and ten digits fit.
+// The columns that a number is rendered in: a `-` and ten digits fit, and a point and two digits after them.
 pub const COLUMNS: usize = WRITE_WIDTH;
+
+// Document 02, U6, "two digits of cents": so many cents are a unit.
+const UNIT_CENTS: u32 = 100;
+
+// The column of the point. Two digits stand after it.
+const POINT: usize = COLUMNS - 3;
 
 // Digits that stand at a place of a text: how many, and their value.
 pub struct Numeral {
@@ -25,7 +33,7 @@ pub struct Numeral {
     pub value: u32,
 }
 
-// A number's bytes, from `start` to the end of the columns, after blanks.
+// Bytes from `start` to the end of the columns, after blanks.
 struct Column {
     text: [u8; COLUMNS],
     start: usize,
@@ -120,21 +128,39 @@ fn digit_byte(n: u32) -> u8
     b'0' + (n as u8)
 }
 
-// A number's digits, after a `-` if it is said.
-fn column_of(minus: bool, number: u32) -> Column
-    ensures { λ r. ⌜ Ends (r .text) (r .start) (decimals minus number) ⌝ }
+// A number's digits, after a `-` if it is said, before the bytes that stand from `end` on. Two digits at a time.
+fn column_of(ending: [u8; COLUMNS], end: usize, minus: bool, number: u32) -> Column
+    requires { ⌜ Roomy ending end ⌝ }
+    ensures { λ r. ⌜ Ends (r .text) (r .start) (decimals minus number ++ drop end ending) ⌝ }
 {
-    let mut text = [b' '; COLUMNS];
+    let mut text = ending;
     let mut n = number;
-    let mut start: usize = COLUMNS - 1;
-    while 9 < n {
+    let mut start: usize = end - 1;
+    while 99 < n {
+        let pair = n % 100;
+        text[start] = digit_byte(pair % 10);
+        text[start - 1] = digit_byte(pair / 10);
+        n = n / 100;
+        start = start - 2;
+    }
+    if 9 < n {
         text[start] = digit_byte(n % 10);
-        n = n / 10;
-        start = start - 1;
+        text[start - 1] = digit_byte(n / 10);
+        if minus {
+            text[start - 2] = b'-'; // before two digits
+            return Column {
+                text,
+                start: start - 2,
+            };
+        }
+        return Column {
+            text,
+            start: start - 1,
+        };
     }
     text[start] = digit_byte(n);
     if minus {
-        text[start - 1] = b'-';
+        text[start - 1] = b'-'; // before one
         return Column {
             text,
             start: start - 1,
@@ -155,7 +181,7 @@ fn blanks_before(width: usize, count: usize) -> usize
 pub fn write_number(out: &mut [u8], at: usize, width: usize, minus: bool, number: u32) -> usize
     ensures { λ r. ⌜ wrote r (now (out .exit)) ≡ written (now (out .entry)) at (justified width (decimals minus number)) ⌝ }
 {
-    let column = column_of(minus, number);
+    let column = column_of([b' '; COLUMNS], COLUMNS, minus, number);
     let text = column.text;
     let start = column.start;
     let count = COLUMNS - start;
@@ -175,11 +201,25 @@ fn distance(v: i32) -> u32
     if w < 0 { (0 - w) as u32 } else { w as u32 }
 }
 
-// "`O` writes the top right-justified in 12 columns"
-pub fn value_column(value: i32) -> [u8; WRITE_WIDTH]
-    ensures { λ r. ⌜ r ≡ padded writeWidth value ⌝ }
+// The point and two digits of cents, at the end of the columns.
+fn cents_column(cents: u32) -> [u8; COLUMNS]
+    requires { ⌜ cents < unitCents ⌝ }
+    ensures { λ r. ⌜ Ends r pointColumn (pointed cents) ⌝ }
 {
-    let column = column_of(value < 0, distance(value));
+    let mut text = [b' '; COLUMNS];
+    text[POINT + 2] = digit_byte(cents % 10);
+    text[POINT + 1] = digit_byte(cents / 10);
+    text[POINT] = b'.';
+    text
+}
+
+// Document 02, U6: "`O` shall write units, a point and two digits of cents, right-justified in 14 columns"
+pub fn money_column(value: i32) -> [u8; WRITE_WIDTH]
+    ensures { λ r. ⌜ r ≡ column value ⌝ }
+{
+    let n = distance(value);
+    let ending = cents_column(n % UNIT_CENTS);
+    let column = column_of(ending, POINT, value < 0, n / UNIT_CENTS);
     column.text
 }
 

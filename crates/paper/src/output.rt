@@ -1,8 +1,7 @@
 // `O`, `X` and prints: what writes to the caller's output. "paper out: the bytes of a print, `O` or `X` do not all fit"
 ghost use mathlib.Core.Path.{_≡_};
 ghost use lib.Seq.{paste};
-ghost use Rattle.language.specs.Decimals.{padded};
-ghost use Rattle.language.specs.Limits.{writeWidth};
+ghost use Rattle.language.specs.Effects.{column};
 ghost use Rattle.language.specs.Syntax.{write, newline};
 ghost use Rattle.language.specs.Machine.{isPrint};
 ghost use Rattle.numerals.specs.Numerals.{wrote, written};
@@ -16,7 +15,7 @@ use language::HEIGHT;
 use language::STORE_CELLS;
 use language::Table;
 use language::WRITE_WIDTH;
-use numerals::value_column;
+use numerals::money_column;
 use numerals::write_bytes;
 use operands::Machine;
 use operands::cells::bounded;
@@ -39,9 +38,9 @@ fn copy_cells(output: &mut [u8], to: usize, cells: &[i32; STORE_CELLS], from: us
 
 // A value's columns at a place of the output: the place after them.
 fn put_column(output: &mut [u8], at: usize, value: i32) -> usize
-    ensures { λ r. ⌜ wrote r (now (output .exit)) ≡ written (now (output .entry)) at (padded writeWidth value) ⌝ }
+    ensures { λ r. ⌜ wrote r (now (output .exit)) ≡ written (now (output .entry)) at (column value) ⌝ }
 {
-    let text = value_column(value);
+    let text = money_column(value);
     write_bytes(output, at, &text)
 }
 

@@ -7,7 +7,7 @@ use Rattle.paper.proofs.output.put_column.Tie as tie
 returns : tie.Need-returns
 returns c =
     let shown = c .before .before .before .before .before in
-    rw (shown .value-column .ensures, toZ-ofZ (shown .before .before .fits .value)) at (c .before .before .write-bytes .ensures)
+    rw (shown .money-column .ensures, toZ-ofZ (shown .before .before .fits .value)) at (c .before .before .write-bytes .ensures)
 
 pub put-column-spec : {M : Type 1} → statement M
 put-column-spec =

@@ -13,12 +13,11 @@ use borrow.Author.Tests.{lt-ltb, le-ltb, eq-eqb, ne-eqb}
 use borrow.Author.Needs.{needs}
 use Rattle.language.specs.declared.Ending.the-variants.{PaperOut}
 use Rattle.language.specs.Limits.{writeWidth}
-use Rattle.language.specs.Decimals.{padded}
 use Rattle.language.specs.Syntax.{operator, write}
 use Rattle.language.specs.Effects.{Effect, goes, stops, top, withOutput, column, perform}
 use Rattle.language.specs.Tables.{standsAt}
 use Rattle.numerals.specs.Numerals.{Written, wrote, written}
-use Rattle.numerals.proofs.Decimals.{length-padded}
+use Rattle.language.proofs.Money.{column-width}
 use Rattle.numerals.proofs.Numerals.{written-room}
 use Rattle.operands.specs.Loop.{effectTurn}
 use Rattle.operands.specs.Held.{stateOf, spotOf, writing}
@@ -26,19 +25,13 @@ use Rattle.paper.proofs.Effects.{emitted-fits, emitted-out, operate-tur
 use Rattle.paper.proofs.output.write.Statement.{statement}
 use Rattle.paper.proofs.output.write.Tie as tie
 
--- 12 columns
-length-column : (v : ℤ) → length (column v) ≡ writeWidth
-unfolding column
-length-column v = length-padded writeWidth v (omega arith)
-
 -- A column that fits is pasted.
-column-written : (o : List ℕ) (at : ℕ) (v : ℤ) {r : ℕ} {o′ : List ℕ} → at + writeWidth ≤ length o → wrote r o′ ≡ written o at (padded writeWidth v)
+column-written : (o : List ℕ) (at : ℕ) (v : ℤ) {r : ℕ} {o′ : List ℕ} → at + writeWidth ≤ length o → wrote r o′ ≡ written o at (column v)
     → (r ≡ at + writeWidth) × (o′ ≡ paste o at (column v) writeWidth)
-unfolding column
 column-written o at v h e =
-    let n = length-padded writeWidth v (omega arith) in
-    let s = e ∙ sym (written-room o at (padded writeWidth v) (omega arith)) in
-    (ap (λ (x : Written). x .next) s ∙ ap (λ (k : ℕ). at + k) n, ap (λ (x : Written). x .buffer) s ∙ ap (paste o at (padded writeWidth v)) n)
+    let n = column-width v in
+    let s = e ∙ sym (written-room o at (column v) (omega arith)) in
+    (ap (λ (x : Written). x .next) s ∙ ap (λ (k : ℕ). at + k) n, ap (λ (x : Written). x .buffer) s ∙ ap (paste o at (column v)) n)
 
 returns : tie.Need-returns
 returns c = λ h. rw (c .stop .ensures, eq-eqb _ _ (c .before .if1 .taken))
@@ -55,7 +48,7 @@ returns-3 c = λ h.
     let s = stateOf H in
     let x : Effect = stops PaperOut in
     let p : perform (operator write) s ≡ x =
-    rw (le-ltb _ _ (c .before .before .if2 .left)) (emitted-out s (column (top s)) writeWidth (length-column (top s)) (omega arith)) in
+    rw (le-ltb _ _ (c .before .before .if2 .left)) (emitted-out s (column (top s)) writeWidth (column-width (top s)) (omega arith)) in
     _∙_ {b = effectTurn x (a .m .at + 1) (spotOf H)} (rw (c .stop3 .ensures))
     (operate-turn (standsAt (h .used)) _ (operator write) (a .m .at + 1) (spotOf H) x refl (c .before .before .before .if1 .left) p)
 
@@ -74,7 +67,7 @@ returns-4 c = λ h.
     let fits : w + writeWidth ≤ length o = omega arith in
     let e = column-written o w v fits (rw b at (wrote .put-column .ensures)) in
     let x : Effect = goes (withOutput s (paste o w (column v) writeWidth) (w + writeWidth)) in
-    let p : perform (operator write) s ≡ x = rw (le-ltb _ _ (held .if2 .left)) (emitted-fits s (column v) writeWidth (length-column v) fits) in
+    let p : perform (operator write) s ≡ x = rw (le-ltb _ _ (held .if2 .left)) (emitted-fits s (column v) writeWidth (column-width v) fits) in
     _∙_ {b = effectTurn x (a .m .at + 1) (spotOf H)}
     (rw (c .go .ensures, e .0, e .1))
     (operate-turn (standsAt (h .used)) _ (operator write) (a .m .at + 1) (spotOf H) x refl (held .before .if1 .left) p)
