@@ -25,7 +25,7 @@ decimals false n = digits 10 n
 abbrev pub maxDecimals : ℕ
 maxDecimals = 11
 
--- the same, after a `-` where it is negative
+-- the digits of a value, after a `-` where it is negative
 unfoldable pub decimal : ℤ → List ℕ
 unfolding digits
 decimal (pos n) = decimals false n
