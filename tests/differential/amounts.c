@@ -138,11 +138,7 @@ static bool write_all(struct random *r, struct three *t, struct call *call, size
 {
     size_t count = call->input_length, fit = room / WIDTH, written = fit < count ? fit : count;
     bool good;
-    call->kind = RUN;
-    call->letter = 'q';
-    call->allowance = 1000;
-    call->list_length = REC_LIST;
-    call->output_length = room;
+    make_run(call, 'q', 1000, room);
     good = call_three(r, t, call);
     good &= same("number", 0, fit < count ? REC_PAPER_OUT : REC_NO_INPUT, t->got.number);
     good &= same("bytes", 0, (long long)(WIDTH * written), (long long)t->got.figures[4]);
@@ -186,12 +182,8 @@ static bool by_hand(struct random *r, struct three *t, struct call *call)
         good &= define_three(r, t, 'q', words);
         for (size_t room = 0; room <= ALL + 1 && good; room++) {
             size_t written = room < PRINT ? 0 : room < SLIP ? PRINT : room < ALL ? SLIP : ALL;
-            call->kind = RUN;
-            call->letter = 'q';
-            call->allowance = 5;
+            make_run(call, 'q', 5, room);
             call->input_length = 0;
-            call->list_length = REC_LIST;
-            call->output_length = room;
             good &= call_three(r, t, call);
             good &= same("number of a slip", (long long)room, written == ALL ? 0 : REC_PAPER_OUT,
                          t->got.number);

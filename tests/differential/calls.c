@@ -198,6 +198,15 @@ bool define_three(struct random *r, struct three *t, uint8_t letter, const char 
     return call_three(r, t, &call) && same("number of a define", 0, 0, t->got.number);
 }
 
+void make_run(struct call *call, uint8_t letter, uint32_t allowance, size_t room)
+{
+    call->kind = RUN;
+    call->letter = letter;
+    call->allowance = allowance;
+    call->list_length = REC_LIST;
+    call->output_length = room;
+}
+
 void choose_loan(struct random *r, struct call *call)
 {
     static const size_t lists[] = {0, 63, 65, 1, 100};

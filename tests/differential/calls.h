@@ -40,6 +40,9 @@ bool fresh_three(struct random *r, struct three *t);
 bool call_three(struct random *r, struct three *t, const struct call *call);
 bool define_three(struct random *r, struct three *t, uint8_t letter, const char *words);
 
+/* A run with the inputs that stand there, a list as it must be, and this room. */
+void make_run(struct call *call, uint8_t letter, uint32_t allowance, size_t room);
+
 /* Inputs, list and output of a run, most of them good. */
 void choose_loan(struct random *r, struct call *call);
 

@@ -105,11 +105,7 @@ static bool divide(struct random *r, struct three *t, struct call *call)
     bool good;
     while (done < pairs && call->input[2 * done + 1] != 0)
         done++;
-    call->kind = RUN;
-    call->letter = 'q';
-    call->allowance = 1000;
-    call->list_length = REC_LIST;
-    call->output_length = 0;
+    make_run(call, 'q', 1000, 0);
     good = call_three(r, t, call);
     good &= same("number", 0, done < pairs ? REC_ZERO_DIVISOR : REC_NO_INPUT, t->got.number);
     good &= same("quotients", 0, (long long)(done < pairs ? done + 2 : done),
@@ -147,12 +143,8 @@ static bool by_hand(struct random *r, struct three *t, struct call *call)
     for (size_t i = 0; i < sizeof known / sizeof known[0] && good; i++) {
         char words[40];
         snprintf(words, sizeof words, "('/%" PRId32 "''/%" PRId32 "'/:)", known[i].a, known[i].b);
-        call->kind = RUN;
-        call->letter = 'q';
-        call->allowance = 3;
+        make_run(call, 'q', 3, 0);
         call->input_length = 0;
-        call->list_length = REC_LIST;
-        call->output_length = 0;
         good &= define_three(r, t, 'q', words) && call_three(r, t, call);
         good &= same("quotient of constants", (long long)i, known[i].q, t->got.list[0]);
         good &= define_three(r, t, 'q', "(II/:)") && add(r, t, call, known[i].a, known[i].b);
