@@ -43,28 +43,54 @@ static void begin(void) {
     }
 }
 
-/* 13, 1, 10, 11, 12 and a refused text: the same numbers, and nothing is changed */
+/* 13, 1, 35, 10, 33, 11, 12 and a refused text: the same numbers, and nothing is changed */
 static int refused_alike(void) {
     int good = 1;
-    for (int broken = 0; broken < 3; broken++)
+    for (int broken = 0; broken < 5; broken++)
         for (const char *letter = "qQe"; *letter != 0; letter++) {
-            int32_t numbers[2][5];
+            enum { CALLS = 7 };
+            int32_t numbers[2][CALLS];
             begin();
             for (int who = 0; who < 2; who++) {
                 struct side *s = &sides[who];
                 s->report.steps = 7;
                 if (broken == 1) s->store.used[25] = 2;
                 if (broken == 2) s->store.vars[9] = REC_VALUE_MAX + 1;
+                if (broken == 3) s->store.marks[25] = 256;
+                if (broken == 4) s->store.marks['q' - 'a'] = REC_STEWARDS;
                 numbers[who][0] = define(s, (uint8_t)*letter, "(N");
                 numbers[who][1] = run(s, (uint8_t)*letter, 1000, &(int32_t){REC_VALUE_MAX + 1}, 1);
-                numbers[who][2] = s->run(&s->store, (uint8_t)*letter, 1000, NULL, 0, s->list, REC_LIST - 1, s->output, PAPER, &s->report);
-                numbers[who][3] = *letter == 'q' ? 1 : s->withdraw(&s->store, (uint8_t)*letter);
-                numbers[who][4] = *letter == 'q' ? 1 : run(s, (uint8_t)*letter, 1000, NULL, 0);
+                numbers[who][2] = s->run(&s->store, (uint8_t)*letter, REC_STEWARD, 1000, NULL, 0, s->list, REC_LIST - 1, s->output, PAPER, &s->report);
+                numbers[who][3] = s->define(&s->store, (uint8_t)*letter, 2, (const uint8_t *)"()", 2);
+                numbers[who][4] = s->run(&s->store, (uint8_t)*letter, 2, 1000, NULL, 0, s->list, REC_LIST, s->output, PAPER, &s->report);
+                numbers[who][5] = *letter == 'q' ? 1 : s->withdraw(&s->store, (uint8_t)*letter);
+                numbers[who][6] = *letter == 'q' ? 1 : run(s, (uint8_t)*letter, 1000, NULL, 0);
             }
-            for (int i = 0; i < 5; i++) good &= numbers[0][i] == numbers[1][i] && numbers[0][i] != 0;
+            for (int i = 0; i < CALLS; i++) good &= numbers[0][i] == numbers[1][i] && numbers[0][i] != 0;
             good &= same_sides();
         }
     if (!good) puts("DIFFERENT ANSWERS: refused calls");
+    return good;
+}
+
+/* A letter's mark, given and taken, and a call of a steward letter: the same answers, for a cashier 34. */
+static int marked_alike(void) {
+    int good = 1;
+    for (uint8_t mark = REC_OPEN; mark <= REC_STEWARDS; mark++)
+        for (uint8_t role = REC_CASHIER; role <= REC_STEWARD; role++) {
+            begin();
+            for (int who = 0; who < 2; who++) {
+                struct side *s = &sides[who];
+                int32_t number = mark == REC_STEWARDS && role == REC_CASHIER ? REC_STEWARD_CALL : 0;
+                good &= define(s, 'a', "(bX;)") == 0 && define(s, 'b', "(''to 's;)") == 0 && s->define(&s->store, 's', mark, (const uint8_t *)"(X;)", 4) == 0;
+                good &= s->run(&s->store, 'a', role, 1000, NULL, 0, s->list, REC_LIST, s->output, PAPER, &s->report) == number;
+                good &= s->report.written == (number == 0 ? 5 : 3) && s->store.marks['s' - 'a'] == mark;
+            }
+            good &= same_sides();
+            for (int who = 0; who < 2; who++) good &= sides[who].withdraw(&sides[who].store, 's') == 0;
+            good &= same_sides();
+        }
+    if (!good) puts("DIFFERENT ANSWERS: marks and roles");
     return good;
 }
 
@@ -94,7 +120,7 @@ static int row(const char *name, call *it, int times) {
 }
 
 int main(void) {
-    int bad = !refused_alike();
+    int bad = !refused_alike() | !marked_alike();
     bad |= row("define d", define_d, 100000);
     bad |= row("define a till's text", define_till, 50000);
     bad |= row("withdraw", withdraw, 200000);
@@ -102,6 +128,6 @@ int main(void) {
     bad |= row("run of two steps", run_short, 100000);
     bad |= sides[0].report.steps != 2 || sides[0].report.written != 0;
     bad |= row("run with a print", run_print, 100000);
-    bad |= sides[0].report.steps != 9 || sides[0].report.taken != 1 || sides[0].report.written != 18 || sides[0].store.vars[1] != 250;
+    bad |= sides[0].report.steps != 9 || sides[0].report.taken != 1 || sides[0].report.written != 6 + REC_COLUMNS || sides[0].store.vars[1] != 250;
     return bad;
 }

@@ -8,13 +8,16 @@ struct frame { int letter, next, exit; };
 
 void plain_fresh(rec_store *store) { memset(store, 0, sizeof *store); }
 
-int32_t plain_define(rec_store *store, uint8_t letter, const uint8_t *text, size_t length) {
+int32_t plain_define(rec_store *store, uint8_t letter, uint8_t mark, const uint8_t *text, size_t length) {
     size_t used;
     if (!sound(store)) return REC_BAD_STORE;
     if (letter < 'a' || 'z' < letter) return REC_NO_SUCH_LETTER;
+    if (mark > REC_STEWARDS) return REC_BAD_MARK;
     int32_t number = plain_link(text, length, store->cells + (letter - 'a') * REC_CELLS, REC_CELLS, &used);
-    if (number == 0) store->used[letter - 'a'] = used;
-    return number;
+    if (number != 0) return number;
+    store->used[letter - 'a'] = used;
+    store->marks[letter - 'a'] = mark;
+    return 0;
 }
 
 int32_t plain_withdraw(rec_store *store, uint8_t letter) {
@@ -23,6 +26,7 @@ int32_t plain_withdraw(rec_store *store, uint8_t letter) {
     if (store->used[letter - 'a'] == 0) return REC_NOT_STANDING;
     memset(store->cells + (letter - 'a') * REC_CELLS, 0, REC_CELLS * sizeof *store->cells);
     store->used[letter - 'a'] = 0;
+    store->marks[letter - 'a'] = REC_OPEN;
     return 0;
 }
 
@@ -35,8 +39,9 @@ static inline const int32_t *table_of(const int32_t *cells, int letter) { return
 static inline int64_t quotient(int64_t a, int64_t b) { return a / b - (a % b != 0 && (a < 0) != (b < 0)); }
 
 /* A run that is not refused. Apart from plain_run, inside which it is slower. */
-__attribute__((noinline)) static int32_t obey(const int32_t *cells, const size_t *used, int32_t *kept, int letter, uint32_t allowance,
-                                              const int32_t *inputs, size_t count, int32_t *list, uint8_t *output, size_t room, rec_report *report) {
+__attribute__((noinline)) static int32_t obey(const int32_t *cells, const size_t *used, const uint32_t *marks, int32_t *kept, int letter, uint32_t role,
+                                              uint32_t allowance, const int32_t *inputs, size_t count, int32_t *list, uint8_t *output, size_t room,
+                                              rec_report *report) {
     int32_t stack[REC_LIST] = {0}, vars[REC_VARIABLES];
     size_t counts[REC_LETTERS * REC_COUNTERS] = {0};
     struct frame frames[REC_CALLS];
@@ -198,6 +203,7 @@ __attribute__((noinline)) static int32_t obey(const int32_t *cells, const size_t
                 if (f == 0) { end = REC_DAMAGED; goto out; }
                 if (left == 0) { end = REC_SPENT; goto out; }
                 if (used[a] == 0) { end = REC_NO_TEXT; goto out; }
+                if (role == REC_CASHIER && marks[a] == REC_STEWARDS) { end = REC_STEWARD_CALL; goto out; }
                 if (REC_CALLS <= depth) { end = REC_DEEP_CALLS; goto out; }
                 frames[depth].letter = letter; frames[depth].next = at + 2; frames[depth].exit = f;
                 depth++; letter = a; at = 2; left--;
@@ -212,21 +218,23 @@ out:
     return end;
 }
 
-static int32_t refusal(const rec_store *store, uint8_t letter, const int32_t *inputs, size_t count, size_t places) {
+static int32_t refusal(const rec_store *store, uint8_t letter, uint8_t role, const int32_t *inputs, size_t count, size_t places) {
     if (!sound(store)) return REC_BAD_STORE;
     if (letter < 'a' || 'z' < letter) return REC_NO_SUCH_LETTER;
+    if (role > REC_STEWARD) return REC_BAD_MARK;
     if (store->used[letter - 'a'] == 0) return REC_NOT_STANDING;
+    if (role == REC_CASHIER && store->marks[letter - 'a'] == REC_STEWARDS) return REC_NOT_FOR_CASHIERS;
     for (size_t i = 0; i < count; i++)
         if (outside(inputs[i])) return REC_BAD_INPUT;
     return places == REC_LIST ? 0 : REC_BAD_LIST;
 }
 
-int32_t plain_run(rec_store *store, uint8_t letter, uint32_t allowance, const int32_t *inputs, size_t count, int32_t *list, size_t places,
-                  uint8_t *output, size_t room, rec_report *report) {
-    int32_t refused = refusal(store, letter, inputs, count, places);
+int32_t plain_run(rec_store *store, uint8_t letter, uint8_t role, uint32_t allowance, const int32_t *inputs, size_t count, int32_t *list,
+                  size_t places, uint8_t *output, size_t room, rec_report *report) {
+    int32_t refused = refusal(store, letter, role, inputs, count, places);
     if (refused != 0) {
         *report = (rec_report){0};
         return refused;
     }
-    return obey(store->cells, store->used, store->vars, letter - 'a', allowance, inputs, count, list, output, room, report);
+    return obey(store->cells, store->used, store->marks, store->vars, letter - 'a', role, allowance, inputs, count, list, output, room, report);
 }

@@ -9,7 +9,7 @@ static int outside(int32_t value) { return value < -REC_VALUE_MAX || REC_VALUE_M
 /* Whether the store keeps its form; else every call of it is refused. */
 static int sound(const rec_store *store) {
     for (int i = 0; i < REC_LETTERS; i++)
-        if (store->used[i] > REC_CELLS || store->used[i] == 1 || store->used[i] == 2) return 0;
+        if (store->used[i] > REC_CELLS || store->used[i] == 1 || store->used[i] == 2 || store->marks[i] > REC_STEWARDS) return 0;
     for (int i = 0; i < REC_VARIABLES; i++)
         if (outside(store->vars[i])) return 0;
     return 1;

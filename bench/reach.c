@@ -94,18 +94,20 @@ static void damage(rec_store *store, uint8_t letter) {
     store->cells[letter * REC_CELLS + at] = bound + from_to(-1, 1);
 }
 
-/* Some letters with tables, and at times damaged cells, a bad count or variable: the letter to ask for. */
+/* Some letters with tables and either mark, and at times damaged cells, a bad count, mark or variable: the letter to ask for. */
 static uint8_t some_store(rec_store *store) {
     uint8_t letter = (uint8_t)below(REC_LETTERS);
     uint32_t cleared = below(4), most = below(8) == 0 ? REC_CELLS : 12;
     memset(store, 0, sizeof *store);
     for (int k = 0; k < REC_LETTERS; k++) {
         if (k != letter && below(4) < cleared) continue;
+        store->marks[k] = below(2);
         store->used[k] = (size_t)from_to(3, (int32_t)most);
         some_table(store->cells + k * REC_CELLS, (int32_t)store->used[k]);
     }
     for (uint32_t i = below(3); i != 0; i--) damage(store, (uint8_t)below(REC_LETTERS));
     if (below(16) == 0) store->used[below(REC_LETTERS)] = (size_t[]){0, 1, 2, REC_CELLS + 1, SIZE_MAX}[below(5)];
+    if (below(32) == 0) store->marks[below(REC_LETTERS)] = (uint32_t[]){2, 256, 257, UINT32_MAX}[below(4)];
     if (below(16) == 0) store->vars[below(REC_VARIABLES)] = (below(2) ? 1 : -1) * (REC_VALUE_MAX + from_to(0, 1));
     return below(16) == 0 ? (uint8_t)below(256) : 'a' + letter;
 }
@@ -130,7 +132,7 @@ static int same_on_many(void) {
 /* ---- the rows ---- */
 
 static int32_t define_in(rec_store *store, char letter, const char *text) {
-    return rec_define(store, (uint8_t)letter, (const uint8_t *)text, strlen(text));
+    return rec_define(store, (uint8_t)letter, REC_OPEN, (const uint8_t *)text, strlen(text));
 }
 
 /* One store, fresh. */

@@ -1,14 +1,14 @@
 /*
  * The REC engine for C and C++. Link with librec.a (pkg-config rec). docs/C.md is the guide, with a complete program.
  *
- * Every function returns for any text, letter, store contents, inputs, allowance, pool and buffer contents. A function that answers with a number answers
- * 0 or a number of enum rec_number. A refused call (1 to 14, 30 to 32, 50, and 29 of rec_reach) leaves the store, the list, the output, the cells, the
- * paper and the marks as they were, and its figures are 0.
+ * Every function returns for any text, letter, mark, role, store contents, inputs, allowance, pool and buffer contents. A function that answers with a
+ * number answers 0 or a number of enum rec_number. A refused call (1 to 14, 30 to 33, 35, 50, and 29 of rec_reach) leaves the store, the list, the output,
+ * the cells, the paper and the report's arrays as they were, and its figures are 0.
  *
  * What the caller sees to, and nothing checks:
  *   pointers    Each points to as many elements as its type or the length after it says, aligned for their type. Where the length is 0 it may be null.
  *               store, report, used, written, reached and missing are never null.
- *   overlap     What a call may write (the store, the list, the output, the report, the cells, the paper, the marks, *used, *written) overlaps nothing
+ *   overlap     What a call may write (the store, the list, the output, the report, the cells, the paper, reached, missing, *used, *written) overlaps nothing
  *               else that the call is passed. What it only reads (text, inputs, input) may overlap.
  *   threads     The library has no data of its own. Any thread may call it; calls at the same time use different stores and buffers.
  *   stack       Below 16 KiB for rec_run and 64 KiB for each other function (docs/C.md has the measured table).
@@ -27,8 +27,8 @@ extern "C" {
 
 /* The version of this header and of the archive beside it. */
 #define REC_VERSION_MAJOR 1
-#define REC_VERSION_MINOR 6
-#define REC_VERSION "1.6"
+#define REC_VERSION_MINOR 7
+#define REC_VERSION "1.7"
 
 /* Document 01's limits. */
 #define REC_TEXT 256            /* bytes of a text */
@@ -42,14 +42,20 @@ extern "C" {
 #define REC_COLUMNS 14          /* bytes that `O` writes: units, a point and two digits of cents (document 02) */
 #define REC_VALUE_MAX 999999999 /* values lie from -REC_VALUE_MAX to REC_VALUE_MAX */
 
+/* Document 02's marks of a letter, and roles of a run's caller. */
+#define REC_OPEN 0     /* anyone may run the letter */
+#define REC_STEWARDS 1 /* only a steward may */
+#define REC_CASHIER 0  /* may run open letters */
+#define REC_STEWARD 1  /* may run every letter */
+
 /* Document 02's bounds of a dividend; each figure is at least 0. */
 #define REC_POOL_MAX 999999999   /* cents of a pool */
 #define REC_RATE_MAX 1000        /* takeout, in tenths of a percent */
 #define REC_STAKES_MAX 999999999 /* winning one-unit stakes */
 
 /*
- * Document 01's and 02's numbers, and one of this library's own. 1 to 14 refuse a call, 20 to 29 end a run, 29 also refuses a reach, 30 refuses a fair
- * copy, 31 and 32 refuse a dividend, 50 refuses a day.
+ * Document 01's and 02's numbers, and one of this library's own. 1 to 14, 33 and 35 refuse a call, 20 to 29 and 34 end a run, 29 also refuses a reach, 30
+ * refuses a fair copy, 31 and 32 refuse a dividend, 50 refuses a day.
  */
 enum rec_number {
     REC_FINISHED = 0,       /* a run that finished; any other call accepted */
@@ -65,7 +71,7 @@ enum rec_number {
     REC_NOT_STANDING = 10,  /* withdraw or run of a cleared letter */
     REC_BAD_INPUT = 11,     /* an input outside the values */
     REC_BAD_LIST = 12,      /* not 64 places */
-    REC_BAD_STORE = 13,     /* a used count neither 0 nor 3 to 250, or a variable outside the values */
+    REC_BAD_STORE = 13,     /* a used count neither 0 nor 3 to 250, a variable outside the values, or a mark neither 0 nor 1 */
     REC_BAD_LINE = 14,      /* a desk line breaks its form */
     REC_SPENT = 20,         /* steps equal the allowance and another step is due */
     REC_LIST_EMPTY = 21,    /* too few values */
@@ -81,6 +87,9 @@ enum rec_number {
     REC_SHORT_PAPER = 30,   /* rec_fair_copy: the copy does not fit */
     REC_BAD_POOL = 31,      /* rec_dividend: a figure outside its bounds */
     REC_NO_WINNER = 32,     /* rec_dividend: stakes are 0 */
+    REC_NOT_FOR_CASHIERS = 33, /* a cashier runs a steward letter */
+    REC_STEWARD_CALL = 34,  /* a cashier's run calls one */
+    REC_BAD_MARK = 35,      /* a mark or role neither of the two */
     REC_SHORT_OUTPUT = 50   /* rec_day: what the day prints does not all fit */
 };
 
@@ -115,20 +124,25 @@ static inline const char *rec_word(int32_t number) {
     case REC_SHORT_PAPER: return "short paper";
     case REC_BAD_POOL: return "bad pool";
     case REC_NO_WINNER: return "no winner";
+    case REC_NOT_FOR_CASHIERS: return "not for cashiers";
+    case REC_STEWARD_CALL: return "steward call";
+    case REC_BAD_MARK: return "bad mark";
     case REC_SHORT_OUTPUT: return "short output";
     default: return "?";
     }
 }
 
 /*
- * A store: the texts that stand under the letters, as code tables, and the variables. The cells of letter a are cells[0] to cells[249], with document
- * 01's cell 1 first; used[0] says how many of them are used, and is 0 for a letter without a text. Variable k is vars[k]. A store has no pointer and no
- * padding: it may be copied, compared by memcmp, and kept in a file of the same kind of machine. Its contents may be anything: a store that breaks its
- * form is refused with 13, or a run of it ends with 29.
+ * A store: the texts that stand under the letters, as code tables, with their marks, and the variables. The cells of letter a are cells[0] to cells[249],
+ * with document 01's cell 1 first; used[0] says how many of them are used, and is 0 for a letter without a text; marks[0] is REC_OPEN or REC_STEWARDS. In a
+ * store that only the calls below have changed since rec_fresh, a letter without a text is open. Variable k is vars[k]. A store has no pointer and no
+ * padding: it may be copied, compared by memcmp, and kept in a file of the same kind of machine. Its contents may be anything: a store that breaks its form
+ * is refused with 13, or a run of it ends with 29.
  */
 typedef struct {
     int32_t cells[REC_LETTERS * REC_CELLS];
     size_t used[REC_LETTERS];
+    uint32_t marks[REC_LETTERS];
     int32_t vars[REC_VARIABLES];
 } rec_store;
 
@@ -139,38 +153,42 @@ typedef struct {
 
 /* ---- the archive's own functions, which take a store's arrays one by one; use the functions after them ---- */
 
-void rec_lent_fresh(int32_t *cells, size_t *used, int32_t *vars);
-uint32_t rec_lent_define(int32_t *cells, size_t *used, const int32_t *vars, uint8_t letter, const uint8_t *text, size_t length);
-uint32_t rec_lent_withdraw(int32_t *cells, size_t *used, const int32_t *vars, uint8_t letter);
-uint32_t rec_lent_run(const int32_t *cells, const size_t *used, int32_t *vars, uint8_t letter, uint32_t allowance, const int32_t *inputs, size_t count,
-                      int32_t *list, size_t places, uint8_t *output, size_t room, size_t *figures);
-uint32_t rec_lent_reach(const int32_t *cells, const size_t *used, const int32_t *vars, uint8_t letter, uint8_t *reached, uint8_t *missing);
+void rec_lent_fresh(int32_t *cells, size_t *used, uint32_t *marks, int32_t *vars);
+uint32_t rec_lent_define(int32_t *cells, size_t *used, uint32_t *marks, const int32_t *vars, uint8_t letter, uint32_t mark, const uint8_t *text,
+                         size_t length);
+uint32_t rec_lent_withdraw(int32_t *cells, size_t *used, uint32_t *marks, const int32_t *vars, uint8_t letter);
+uint32_t rec_lent_run(const int32_t *cells, const size_t *used, const uint32_t *marks, int32_t *vars, uint8_t letter, uint32_t role, uint32_t allowance,
+                      const int32_t *inputs, size_t count, int32_t *list, size_t places, uint8_t *output, size_t room, size_t *figures);
+uint32_t rec_lent_reach(const int32_t *cells, const size_t *used, const uint32_t *marks, const int32_t *vars, uint8_t letter, uint8_t *reached,
+                        uint8_t *missing);
 
 /* ---- a store ---- */
 
-/* Every letter cleared, every variable 0, whatever the store held. */
-static inline void rec_fresh(rec_store *store) { rec_lent_fresh(store->cells, store->used, store->vars); }
+/* Every letter cleared and open, every variable 0, whatever the store held. */
+static inline void rec_fresh(rec_store *store) { rec_lent_fresh(store->cells, store->used, store->marks, store->vars); }
 
-/* The text becomes that of the letter: 0, or 13, 1, 2 to 9 in that order. */
-static inline int32_t rec_define(rec_store *store, uint8_t letter, const uint8_t *text, size_t length) {
-    return (int32_t)rec_lent_define(store->cells, store->used, store->vars, letter, text, length);
+/* The text becomes that of the letter, and the letter's mark becomes `mark`, REC_OPEN or REC_STEWARDS: 0, or 13, 1, 35, 2 to 9 in that order. */
+static inline int32_t rec_define(rec_store *store, uint8_t letter, uint32_t mark, const uint8_t *text, size_t length) {
+    return (int32_t)rec_lent_define(store->cells, store->used, store->marks, store->vars, letter, mark, text, length);
 }
 
-/* The letter's text goes: 0, or 13, 1, 10 in that order. */
+/* The letter's text goes, and the letter is open again: 0, or 13, 1, 10 in that order. */
 static inline int32_t rec_withdraw(rec_store *store, uint8_t letter) {
-    return (int32_t)rec_lent_withdraw(store->cells, store->used, store->vars, letter);
+    return (int32_t)rec_lent_withdraw(store->cells, store->used, store->marks, store->vars, letter);
 }
 
 /*
- * The letter's text is obeyed: 0 where it finishes, 13, 1, 10, 11, 12 (in that order) where it is refused, 20 to 29 where it is stopped. `places` is
- * REC_LIST. Unless it is refused, list[0] is the bottom and the places above the height are 0, the first `written` bytes of the output are written and
- * the rest is as it was. Only a finished run changes the variables; no run changes a table. A run takes at most `allowance` steps.
+ * The letter's text is obeyed for a caller with this role, REC_CASHIER or REC_STEWARD, which is remembered nowhere: 0 where it finishes, 13, 1, 35, 10, 33,
+ * 11, 12 (in that order) where it is refused, 20 to 29 or 34 where it is stopped. A cashier's run obeys no mark of a steward letter: of its own letter 33
+ * says so, of a letter that is called 34, through however many letters. `places` is REC_LIST. Unless it is refused, list[0] is the bottom and the places
+ * above the height are 0, the first `written` bytes of the output are written and the rest is as it was. Only a finished run changes the variables; no run
+ * changes a table or a mark. A run takes at most `allowance` steps.
  */
-static inline int32_t rec_run(rec_store *store, uint8_t letter, uint32_t allowance, const int32_t *inputs, size_t count, int32_t *list, size_t places,
-                              uint8_t *output, size_t room, rec_report *report) {
+static inline int32_t rec_run(rec_store *store, uint8_t letter, uint32_t role, uint32_t allowance, const int32_t *inputs, size_t count, int32_t *list,
+                              size_t places, uint8_t *output, size_t room, rec_report *report) {
     size_t figures[5];
     uint32_t number =
-        rec_lent_run(store->cells, store->used, store->vars, letter, allowance, inputs, count, list, places, output, room, figures);
+        rec_lent_run(store->cells, store->used, store->marks, store->vars, letter, role, allowance, inputs, count, list, places, output, room, figures);
     report->truth = figures[0];
     report->steps = figures[1];
     report->height = figures[2];
@@ -181,12 +199,12 @@ static inline int32_t rec_run(rec_store *store, uint8_t letter, uint32_t allowan
 
 /*
  * What the letter can reach, before it is run: reached[k] is 1 for each letter that some chain of calls in the standing tables leads to, the letter itself
- * included, and missing[k] is 1 for each of those that has no text; every other mark is 0, and a is 0. 0, or 13, 1, 10 in that order, then REC_DAMAGED
- * where reading any standing table mark after mark meets a cell that it describes: a refusal here, which leaves both arrays as they were. In a store that
- * only the calls above have changed since rec_fresh, a run of the letter ends with REC_NO_TEXT only where some letter is marked missing.
+ * included, and missing[k] is 1 for each of those that has no text; every other element of the two arrays is 0. Letter a has index 0. 0, or 13, 1, 10 in
+ * that order, then REC_DAMAGED where reading any standing table mark after mark meets a cell that it describes: a refusal here, which leaves both arrays as
+ * they were. In a store that only the calls above have changed since rec_fresh, a run of the letter ends with REC_NO_TEXT only where some letter is missing.
  */
 static inline int32_t rec_reach(const rec_store *store, uint8_t letter, uint8_t reached[REC_LETTERS], uint8_t missing[REC_LETTERS]) {
-    return (int32_t)rec_lent_reach(store->cells, store->used, store->vars, letter, reached, missing);
+    return (int32_t)rec_lent_reach(store->cells, store->used, store->marks, store->vars, letter, reached, missing);
 }
 
 /* ---- a text alone ---- */

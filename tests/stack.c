@@ -70,7 +70,7 @@ static size_t depth_of(void (*call)(void), uint8_t pattern)
 
 static rec_store store;
 static struct text text;
-static uint8_t letter = 'q';
+static uint8_t letter = 'q', mark = REC_OPEN, role = REC_CASHIER;
 static uint32_t allowance = 100000;
 static int32_t inputs[REC_LIST], list[REC_LIST];
 static size_t places = REC_LIST;
@@ -83,7 +83,7 @@ static uint32_t pool = 1234567, rate = 150, stakes = 4560;
 
 static void fresh(void) { rec_fresh(&store); }
 static void check(void) { number = rec_check(text.bytes, text.length); }
-static void define(void) { number = rec_define(&store, letter, text.bytes, text.length); }
+static void define(void) { number = rec_define(&store, letter, mark, text.bytes, text.length); }
 static void withdraw(void) { number = rec_withdraw(&store, letter); }
 
 static void link_text(void)
@@ -101,7 +101,8 @@ static void fair_copy(void)
 
 static void run(void)
 {
-    number = rec_run(&store, letter, allowance, inputs, REC_LIST, list, places, output, PAPER, &report);
+    number = rec_run(&store, letter, role, allowance, inputs, REC_LIST, list, places, output, PAPER,
+                     &report);
 }
 
 static void reach(void) { number = rec_reach(&store, letter, reached, missing); }
@@ -248,6 +249,8 @@ static void random_texts(void)
     for (int i = 0; i < RANDOM_TEXTS; i++) {
         text_hard(&r, (const uint8_t *)"abcdef", 6, &text);
         letter = (uint8_t)('a' + below(&r, 6));
+        mark = chance(&r, 30);
+        role = chance(&r, 50);
         room = i % 2 == 0 ? PAPER : text.length / 2;
         for (size_t j = 1; j < FUNCTIONS; j++)
             if (functions[j].call != withdraw || chance(&r, 20))
@@ -268,6 +271,14 @@ static void refusals(void)
     expect(withdraw, REC_NOT_STANDING);
     expect(run, REC_NOT_STANDING);
     expect(reach, REC_NOT_STANDING);
+    mark = role = 2;
+    expect(define, REC_BAD_MARK);
+    expect(run, REC_BAD_MARK);
+    mark = REC_STEWARDS;
+    role = REC_CASHIER;
+    expect(define, 0);
+    expect(run, REC_NOT_FOR_CASHIERS);
+    mark = REC_OPEN;
     expect(define, 0);
     inputs[REC_LIST - 1] = REC_VALUE_MAX + 1;
     expect(run, REC_BAD_INPUT);
@@ -281,6 +292,12 @@ static void refusals(void)
     expect(run, REC_BAD_STORE);
     expect(reach, REC_BAD_STORE);
     store.used[25] = 0;
+    store.marks[25] = 2;
+    expect(define, REC_BAD_STORE);
+    expect(withdraw, REC_BAD_STORE);
+    expect(run, REC_BAD_STORE);
+    expect(reach, REC_BAD_STORE);
+    store.marks[25] = REC_OPEN;
     expect(withdraw, 0);
 }
 
@@ -291,7 +308,8 @@ static void define_as(uint8_t under, const char *words)
     expect(define, 0);
 }
 
-/* A full list, 100 calls within calls, prints and `O`. */
+/* A full list, 100 calls within calls, prints and `O`; then a steward letter for a cashier
+ * and for a steward. */
 static void deep_run(void)
 {
     rec_fresh(&store);
@@ -304,6 +322,14 @@ static void deep_run(void)
     expect(run, REC_DEEP_CALLS);
     if (report.height != REC_LIST || report.written != 6 + REC_COLUMNS + 99 * (7 + REC_COLUMNS))
         fail("the deep run is not full");
+    mark = REC_STEWARDS;
+    define_as('g', "(''deeper 'Og;)");
+    mark = REC_OPEN;
+    letter = 'm';
+    expect(run, REC_STEWARD_CALL);
+    role = REC_STEWARD;
+    expect(run, REC_DEEP_CALLS);
+    role = REC_CASHIER;
 }
 
 /* Letters that call each other: a circle of 26 with tables of 250 cells, then one letter

@@ -351,7 +351,7 @@ enum { LINE = 300, LINES = 9999 }; /* the desk's: bytes of a line, and lines tha
 static int32_t obey(rec_store *store, const struct bytes *line) {
     if (begins(line, 'R')) return REC_FINISHED;
     if (line->length > LINE) return REC_BAD_LINE;
-    if (is_define(line)) return rec_define(store, line->at[2], line->at + DEFINE, line->length - DEFINE);
+    if (is_define(line)) return rec_define(store, line->at[2], REC_OPEN, line->at + DEFINE, line->length - DEFINE);
     if (is_withdraw(line)) return rec_withdraw(store, line->at[2]);
     return REC_BAD_LINE;
 }

@@ -18,10 +18,11 @@ static void keep_answer(struct side *side, struct rec_answer a)
     side->figures[4] = a.written;
 }
 
-static struct rec_answer run_store(struct rec_store *store, uint8_t letter, uint32_t allowance,
-                                   const struct rec_loan *loan)
+static struct rec_answer run_store(struct rec_store *store, uint8_t letter, uint8_t role,
+                                   uint32_t allowance, const struct rec_loan *loan)
 {
-    return rec_store_run(store->cells, store->used, store->variables, letter, allowance, loan);
+    return rec_store_run(store->cells, store->used, store->marks, store->variables, letter, role,
+                         allowance, loan);
 }
 
 /* A book and a store are called alike. */
@@ -31,11 +32,12 @@ static struct rec_answer run_store(struct rec_store *store, uint8_t letter, uint
         struct rec_loan loan = {call->input, call->input_length, side->list,                 \
                                 call->list_length, side->output, call->output_length};       \
         if (call->kind == DEFINE)                                                            \
-            side->number = define(it, call->letter, call->text.bytes, call->text.length);    \
+            side->number = define(it, call->letter, call->mark, call->text.bytes,            \
+                                  call->text.length);                                        \
         else if (call->kind == WITHDRAW)                                                     \
             side->number = withdraw(it, call->letter);                                       \
         else                                                                                 \
-            keep_answer(side, run(it, call->letter, call->allowance, &loan));                \
+            keep_answer(side, run(it, call->letter, call->role, call->allowance, &loan));    \
     }
 
 REFERENCE(call_store, struct rec_store, rec_store_define, rec_store_withdraw, run_store)
@@ -63,11 +65,16 @@ static bool left_alone(const struct rec_store *store, const struct rec_store *st
     if (call->kind == RUN)
         memset(expected->figures, 0, sizeof expected->figures);
     good = same_sides(expected, side);
-    good &= same_variables(store_before->variables, store->variables);
-    good &= same_tables(store_before, store);
+    good &= same_stores(store_before, store);
     if (!good)
         puts("  left by a refused call");
     return good;
+}
+
+bool is_refusal(uint32_t number)
+{
+    return (REC_NO_SUCH_LETTER <= number && number <= REC_BAD_LINE)
+           || number == REC_NOT_FOR_CASHIERS || number == REC_BAD_MARK;
 }
 
 bool call_engine(struct rec_store *store, const struct call *call, struct side *side)
@@ -77,9 +84,13 @@ bool call_engine(struct rec_store *store, const struct call *call, struct side *
     bool good;
     store_before = *store;
     side_before = *side;
-    good = engine_call(store->cells, store->used, store->variables, call, side);
-    if (REC_NO_SUCH_LETTER <= side->number && side->number <= REC_BAD_LINE)
+    good = engine_call(store->cells, store->used, store->marks, store->variables, call, side);
+    if (is_refusal(side->number))
         good &= left_alone(store, &store_before, call, side, &side_before);
+    if (call->kind == RUN) {
+        good &= same_marks(store_before.marks, store->marks);
+        good &= same_tables(&store_before, store);
+    }
     return good;
 }
 
@@ -91,11 +102,12 @@ bool fresh_engine(struct random *r, struct rec_store *store)
         store->cells[i] = (int32_t)random_bits(r);
     for (size_t i = 0; i < REC_LETTERS; i++)
         store->used[i] = (size_t)random_bits(r) << 32 | random_bits(r);
+    for (size_t i = 0; i < REC_LETTERS; i++)
+        store->marks[i] = (uint8_t)random_bits(r);
     for (size_t i = 0; i < REC_VARIABLES; i++)
         store->variables[i] = (int32_t)random_bits(r);
-    good = engine_fresh(store->cells, store->used, store->variables);
-    good &= same_variables(zeros.variables, store->variables);
-    good &= same_tables(&zeros, store);
+    good = engine_fresh(store->cells, store->used, store->marks, store->variables);
+    good &= same_stores(&zeros, store);
     if (!good)
         puts("  in a fresh store");
     return good;
@@ -131,6 +143,14 @@ bool same_variables(const int32_t *expected, const int32_t *got)
     return good;
 }
 
+bool same_marks(const uint8_t *expected, const uint8_t *got)
+{
+    bool good = true;
+    for (size_t i = 0; i < REC_LETTERS; i++)
+        good &= same("mark of letter", (long long)i + 1, expected[i], got[i]);
+    return good;
+}
+
 bool same_tables(const struct rec_store *expected, const struct rec_store *got)
 {
     bool good = true;
@@ -146,16 +166,24 @@ bool same_tables(const struct rec_store *expected, const struct rec_store *got)
     return good;
 }
 
+bool same_stores(const struct rec_store *expected, const struct rec_store *got)
+{
+    bool good = same_variables(expected->variables, got->variables);
+    good &= same_marks(expected->marks, got->marks);
+    good &= same_tables(expected, got);
+    return good;
+}
+
 void show_call(const struct call *call)
 {
     static const char *const words[CALL_KINDS] = {"define", "withdraw", "run"};
     printf("  %s, letter %u", words[call->kind], (unsigned)call->letter);
     if (call->kind == RUN)
-        printf(", allowance %lu, %zu inputs, list %zu, output %zu",
+        printf(", role %u, allowance %lu, %zu inputs, list %zu, output %zu", (unsigned)call->role,
                (unsigned long)call->allowance, call->input_length, call->list_length,
                call->output_length);
     if (call->kind == DEFINE) {
-        printf(", text of %zu bytes: ", call->text.length);
+        printf(", mark %u, text of %zu bytes: ", (unsigned)call->mark, call->text.length);
         for (size_t i = 0; i < call->text.length && i < 400; i++) {
             uint8_t byte = call->text.bytes[i];
             printf(byte < 32 || byte > 126 || byte == '\\' ? "\\x%02x" : "%c", byte);
@@ -183,6 +211,8 @@ bool call_three(struct random *r, struct three *t, const struct call *call)
     good &= same_sides(&by_book, &t->got);
     good &= same_sides(&by_store, &t->got);
     good &= same_variables(t->book.variables, t->engine.variables);
+    good &= same_marks(t->book.marks, t->engine.marks);
+    good &= same_stores(&t->store, &t->engine);
     if (!good)
         show_call(call);
     return good;
@@ -193,6 +223,7 @@ bool define_three(struct random *r, struct three *t, uint8_t letter, const char 
     static struct call call;
     call.kind = DEFINE;
     call.letter = letter;
+    call.mark = REC_OPEN;
     text_clear(&call.text);
     text_add(&call.text, words);
     return call_three(r, t, &call) && same("number of a define", 0, 0, t->got.number);
@@ -202,6 +233,7 @@ void make_run(struct call *call, uint8_t letter, uint32_t allowance, size_t room
 {
     call->kind = RUN;
     call->letter = letter;
+    call->role = REC_CASHIER;
     call->allowance = allowance;
     call->list_length = REC_LIST;
     call->output_length = room;
@@ -221,6 +253,14 @@ void choose_loan(struct random *r, struct call *call)
     call->output_length = chance(r, 40)   ? 4096
                           : chance(r, 50) ? below(r, 30)
                                           : outputs[below(r, 11)];
+}
+
+uint8_t some_mark(struct random *r, uint32_t percent)
+{
+    static const uint8_t odd[] = {2, 3, 127, 128, 129, 254, 255};
+    if (chance(r, 3))
+        return chance(r, 70) ? odd[below(r, sizeof odd)] : (uint8_t)between(r, 2, 255);
+    return chance(r, percent);
 }
 
 uint32_t suit_allowance(struct random *r, const struct side *ended, uint32_t trial)
@@ -253,7 +293,7 @@ void count_call(struct tally *tally, const struct call *call, const struct side 
     if (call->kind != RUN)
         return;
     tally->clauses[expected->clause]++;
-    if (expected->number == REC_FINISHED || expected->number >= REC_SPENT) {
+    if (!is_refusal(expected->number)) {
         size_t taken = expected->figures[3];
         tally->taken[expected->number != 0][taken < TAKEN ? taken : TAKEN - 1]++;
     }

@@ -13,8 +13,12 @@ void soil(struct random *r, struct side *side);
 void call_store(struct rec_store *store, const struct call *call, struct side *side);
 void call_book(struct rec_book *book, const struct call *call, struct side *side);
 
+/* The call is not made, and changes nothing. */
+bool is_refusal(uint32_t number);
+
 /* The engine's. False: a refused call left a trace in store, list, output or
- * figures, or a fresh store is not all zeros whatever it held before. */
+ * figures, a run in tables or marks, or a fresh store is not all zeros whatever it held
+ * before. */
 bool call_engine(struct rec_store *store, const struct call *call, struct side *side);
 bool fresh_engine(struct random *r, struct rec_store *store);
 
@@ -23,7 +27,9 @@ bool fresh_engine(struct random *r, struct rec_store *store);
 bool same(const char *what, long long index, long long expected, long long got);
 bool same_sides(const struct side *expected, const struct side *got);
 bool same_variables(const int32_t *expected, const int32_t *got);
+bool same_marks(const uint8_t *expected, const uint8_t *got);
 bool same_tables(const struct rec_store *expected, const struct rec_store *got);
+bool same_stores(const struct rec_store *expected, const struct rec_store *got);
 void show_call(const struct call *call);
 
 /* The reference's book and store, which have ways of their own, and the engine's store. */
@@ -34,17 +40,20 @@ struct three {
     struct side got; /* of the engine's last call */
 };
 
-/* All of them fresh. The same call of all three, or a define of a text, which is
+/* All of them fresh. The same call of all three, or a define of a text as open, which is
  * accepted; false: they differ. */
 bool fresh_three(struct random *r, struct three *t);
 bool call_three(struct random *r, struct three *t, const struct call *call);
 bool define_three(struct random *r, struct three *t, uint8_t letter, const char *words);
 
-/* A run with the inputs that stand there, a list as it must be, and this room. */
+/* A cashier's run with the inputs that stand there, a list as it must be, and this room. */
 void make_run(struct call *call, uint8_t letter, uint32_t allowance, size_t room);
 
 /* Inputs, list and output of a run, most of them good. */
 void choose_loan(struct random *r, struct call *call);
+
+/* A mark or a role: 1 so often, now and then neither of the two, else 0. */
+uint8_t some_mark(struct random *r, uint32_t percent);
 
 /* An allowance that suits how a run ended with the allowance `trial`. */
 uint32_t suit_allowance(struct random *r, const struct side *ended, uint32_t trial);

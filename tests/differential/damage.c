@@ -3,6 +3,8 @@
 #include <stdio.h>
 #include <string.h>
 
+#include "engine.h"
+
 int32_t *table_of(struct rec_store *store, size_t letter)
 {
     return store->cells + letter * REC_CELLS;
@@ -203,10 +205,25 @@ static void damage_variable(struct random *r, struct rec_store *store)
     store->variables[below(r, REC_VARIABLES)] = odd[below(r, 6)];
 }
 
+/* Of any letter, most often the other one of the two. */
+static void damage_mark(struct random *r, struct rec_store *store, size_t letters)
+{
+    uint8_t *mark = &store->marks[below(r, (uint32_t)(chance(r, 70) ? letters : REC_LETTERS))];
+    if (chance(r, 88))
+        *mark = *mark == REC_OPEN ? REC_STEWARD_LETTER : REC_OPEN;
+    else
+        *mark = (uint8_t)(chance(r, 70) ? between(r, MARK_WIDE, UINT8_MAX)
+                                        : between(r, REC_STEWARD_LETTER + 1, MARK_WIDE - 1));
+}
+
 void damage_once(struct random *r, struct rec_store *store, size_t letters)
 {
     size_t letter = tabled_letter(r, store, letters);
     uint32_t pick = below(r, 100);
+    if (chance(r, 8)) {
+        damage_mark(r, store, letters);
+        return;
+    }
     if (letter == REC_LETTERS)
         return;
     if (pick < 66)
@@ -236,13 +253,16 @@ void make_store(struct random *r, struct rec_store *store, size_t letters)
 {
     static const uint8_t all[] = "abcdefghijklmnopqrstuvwxyz";
     struct text text;
+    uint32_t stewards = chance(r, 40) ? 0 : (uint32_t)between(r, 10, 40);
     rec_store_fresh(store);
     for (size_t i = 0; i < letters; i++) {
         struct taste taste = random_taste(r, all, letters);
+        uint8_t mark = chance(r, stewards);
+        store->marks[i] = mark;
         if (chance(r, 10))
             continue;
         text_random(r, &taste, &text);
-        rec_store_define(store, all[i], text.bytes, text.length);
+        rec_store_define(store, all[i], mark, text.bytes, text.length);
     }
     for (size_t i = 0; i < REC_VARIABLES; i++)
         store->variables[i] = chance(r, 40) ? 0 : random_value(r);
@@ -324,6 +344,29 @@ const struct hand_table hand_tables[] = {
 
 const size_t hand_table_count = sizeof hand_tables / sizeof hand_tables[0];
 
+/* Each letter's mark as either of the two, and as some of the others, by turns. */
+static bool try_marks(const struct rec_store *sound,
+                      bool (*try)(const struct rec_store *store, bool bad))
+{
+    enum { LOW = REC_STEWARD_LETTER + 1, WIDE = UINT8_MAX + 1 - MARK_WIDE, EACH = 4 };
+    static struct rec_store store;
+    bool good = true;
+    for (size_t letter = 0; letter < REC_LETTERS && good; letter++) {
+        store = *sound;
+        for (size_t i = letter * EACH; i < (letter + 1) * EACH && good; i++) {
+            store.marks[letter] = (uint8_t)(LOW + i);
+            good &= try(&store, true);
+            store.marks[letter] = (uint8_t)(MARK_WIDE + i % WIDE);
+            good &= try(&store, true);
+        }
+        for (uint8_t mark = REC_OPEN; mark <= REC_STEWARD_LETTER && good; mark++) {
+            store.marks[letter] = mark;
+            good &= try(&store, false);
+        }
+    }
+    return good;
+}
+
 bool try_bad_stores(bool (*try)(const struct rec_store *store, bool bad))
 {
     static const size_t odd[] = {1, 2, 251, 252, 256, 259, 2000, (size_t)1 << 31, (size_t)1 << 32,
@@ -334,8 +377,8 @@ bool try_bad_stores(bool (*try)(const struct rec_store *store, bool bad))
     static struct rec_store sound, store;
     bool good = true;
     rec_store_fresh(&sound);
-    rec_store_define(&sound, 'a', (const uint8_t *)"('/5'S0S1;)", 11);
-    good &= try(&sound, false);
+    rec_store_define(&sound, 'a', REC_OPEN, (const uint8_t *)"('/5'S0S1;)", 11);
+    good &= try(&sound, false) && try_marks(&sound, try);
     for (size_t letter = 0; letter < REC_LETTERS && good; letter++) {
         for (size_t i = 0; i < sizeof odd / sizeof odd[0] && good; i++) {
             store = sound;
@@ -374,7 +417,10 @@ void show_store(const struct rec_store *store)
             printf("%s%ld", i ? "," : " ", (long)store->cells[letter * REC_CELLS + i]);
         putchar('\n');
     }
-    printf("  variables 1 to 9 and 0:");
+    printf("  marks of a to z:");
+    for (size_t i = 0; i < REC_LETTERS; i++)
+        printf(" %u", (unsigned)store->marks[i]);
+    printf("\n  variables 1 to 9 and 0:");
     for (size_t i = 0; i < REC_VARIABLES; i++)
         printf(" %ld", (long)store->variables[i]);
     putchar('\n');

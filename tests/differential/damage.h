@@ -1,5 +1,5 @@
-/* Damaged stores, which no calls give: random ones, and tables, counts and variables
- * by hand. */
+/* Damaged stores, which no calls give: random ones, and tables, counts, marks and
+ * variables by hand. */
 #ifndef DAMAGE_H
 #define DAMAGE_H
 
@@ -39,10 +39,12 @@ void find_spots(struct spots *spots, const int32_t *table, size_t used);
 
 /* ---- random damage ---- */
 
-/* A store of random texts of so many letters from `a` on, which call each other. */
+/* A store of random texts of so many letters from `a` on, which call each other. Some have
+ * steward letters, cleared ones among them. */
 void make_store(struct random *r, struct rec_store *store, size_t letters);
 
-/* Changes to the tables of so many letters, to their counts and to the variables. */
+/* Changes to the tables of so many letters, to their counts, to the variables, and to the
+ * marks of all letters. */
 void damage_once(struct random *r, struct rec_store *store, size_t letters);
 void damage_store(struct random *r, struct rec_store *store, size_t letters);
 
@@ -62,7 +64,7 @@ extern const size_t hand_table_count;
 /* A clause of 29 in words. */
 extern const char *const clause_words[REC_CLAUSES];
 
-/* Tries a store in which `a` alone stands with `('/5'S0S1;)`, then every count and
+/* Tries a store in which `a` alone stands with `('/5'S0S1;)`, then every count, mark and
  * variable just inside and outside of what 13 allows; `bad`: 13 is due. The cells of
  * every other letter are 0. False: a try gave false. */
 bool try_bad_stores(bool (*try)(const struct rec_store *store, bool bad));

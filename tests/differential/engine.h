@@ -23,7 +23,9 @@ enum call_kind { DEFINE, WITHDRAW, RUN, CALL_KINDS };
 struct call {
     enum call_kind kind;
     uint8_t letter;
+    uint8_t mark;     /* of a define */
     struct text text; /* of a define; what follows is of a run */
+    uint8_t role;
     uint32_t allowance;
     int32_t input[INPUT_ROOM];
     size_t input_length;
@@ -42,14 +44,20 @@ struct side {
 
 /* A store's contents, variable 1 first and variable 0 last, as the reference has
  * them. They go to a store of the engine, and come back after the call. False: the
- * call wrote beside the store or the report. */
-bool engine_fresh(int32_t *cells, size_t *used, int32_t *variables);
-bool engine_call(int32_t *cells, size_t *used, int32_t *variables, const struct call *call,
-                 struct side *side);
+ * call wrote beside the store or the report, or left a mark that no byte stands for.
+ *
+ * The engine's marks are words. A byte below MARK_WIDE stands for itself, and each from
+ * there on for a word that most often is 0 or 1 in its low byte or its low half. */
+enum { MARK_WIDE = 240 };
 
-/* The same contents; 26 marks each. False: the call wrote in the store or beside it. */
-bool engine_reach(const int32_t *cells, const size_t *used, const int32_t *variables,
-                  uint8_t letter, uint8_t *reached, uint8_t *missing, uint32_t *number);
+bool engine_fresh(int32_t *cells, size_t *used, uint8_t *marks, int32_t *variables);
+bool engine_call(int32_t *cells, size_t *used, uint8_t *marks, int32_t *variables,
+                 const struct call *call, struct side *side);
+
+/* The same contents; 26 places each. False: the call wrote in the store or beside it. */
+bool engine_reach(const int32_t *cells, const size_t *used, const uint8_t *marks,
+                  const int32_t *variables, uint8_t letter, uint8_t *reached, uint8_t *missing,
+                  uint32_t *number);
 
 int32_t engine_check(const uint8_t *text, size_t length);
 int32_t engine_link(const uint8_t *text, size_t length, int32_t *cells, size_t room, size_t *used);

@@ -68,7 +68,7 @@ static struct rec_answer try_run(struct session *s, const struct line *line,
     takes_number(&copy, &number);
     takes_inputs(&copy, inputs, &loan.input_length);
     memcpy(variables, s->book.variables, sizeof variables);
-    answer = rec_book_run(&s->book, line->bytes[2], allowance, &loan);
+    answer = rec_book_run(&s->book, line->bytes[2], REC_CASHIER, allowance, &loan);
     memcpy(s->book.variables, variables, sizeof variables);
     return answer;
 }
@@ -312,8 +312,8 @@ static void define_random(struct session *s, uint8_t letter)
         struct rec_answer answer;
         some_text(s, &text);
         before = s->book;
-        rec_book_define(&s->book, letter, text.bytes, text.length);
-        answer = rec_book_run(&s->book, letter, 1000, &loan);
+        rec_book_define(&s->book, letter, REC_OPEN, text.bytes, text.length);
+        answer = rec_book_run(&s->book, letter, REC_CASHIER, 1000, &loan);
         s->book = before;
         if (answer.number == REC_RANGE || answer.number == REC_ZERO_DIVISOR
             || answer.number == REC_PAPER_OUT)

@@ -1,6 +1,6 @@
-/* Compares rec_reach with the reference: the number, every mark, and the bytes around
- * the marks; the store stays as it was, byte for byte. On stores that lists of calls
- * make, where the engine is also held to what U2 says of its runs, and on damaged ones.
+/* Compares rec_reach with the reference: the number, every letter reached or missing, and
+ * the bytes around; the store stays as it was, byte for byte. On stores that lists of calls
+ * make, where the engine is also held to what U2 and U7 say of its runs, and on damaged ones.
  *
  *     reaches [FIRST_SEED [ROUNDS]]      see work.h
  *
@@ -43,9 +43,10 @@ enum decoy {
 enum sight {
     ITSELF_ALONE, SELF_CALL, CIRCLE, CHAIN_OF_26, NONE_MISSING, MISSING_NEXT, MISSING_FAR,
     STANDING_APART, CLEARED_APART, USED_3, USED_250, ALL_FULL, TABLE_CHANGED, DAMAGE_IN_ITSELF,
-    DAMAGE_REACHED, DAMAGE_APART, SMALL_COUNT, LARGE_COUNT, BAD_VARIABLE, BAD_BEFORE_1,
-    BAD_BEFORE_10, BAD_BEFORE_29, LETTER_BEFORE_29, STANDING_BEFORE_29, RUN_27, RUN_NOT_27,
-    RUN_NONE_MISSING, SIGHTS
+    DAMAGE_REACHED, DAMAGE_APART, SMALL_COUNT, LARGE_COUNT, BAD_VARIABLE, MARK_OF_STANDING,
+    MARK_OF_CLEARED, BAD_BEFORE_1, BAD_BEFORE_10, BAD_BEFORE_29, LETTER_BEFORE_29,
+    STANDING_BEFORE_29, STEWARDS_ITSELF, STEWARDS_LEADS, RUN_27, RUN_NOT_27, RUN_NONE_MISSING,
+    RUN_34, RUN_NOT_34, SIGHTS
 };
 
 static const char *const decoy_words[DECOYS] = {
@@ -58,9 +59,12 @@ static const char *const sight_words[SIGHTS] = {
     "standing letter not reached", "cleared letter not reached", "table of 3 cells",
     "table of 250 cells", "26 tables of 250 cells", "changed table read through",
     "29 by its own table", "29 by another that is reached", "29 by none that is reached",
-    "13 by a count of 1 or 2", "13 by a count over 250", "13 by a variable", "13 before 1",
-    "13 before 10", "13 before 29", "1 before 29", "10 before 29", "run ended 27",
-    "run ended otherwise, a letter missing", "run, no letter missing"};
+    "13 by a count of 1 or 2", "13 by a count over 250", "13 by a variable",
+    "13 by the mark of a standing letter", "13 by the mark of a cleared letter", "13 before 1",
+    "13 before 10", "13 before 29", "1 before 29", "10 before 29", "steward letter asked for",
+    "letter reached through steward letters alone", "run ended 27",
+    "run ended otherwise, a letter missing", "run, no letter missing", "cashier's run ended 34",
+    "cashier's run ended otherwise, a steward letter reached"};
 
 static unsigned long long reaches, numbers[ORIGINS][REC_NUMBERS], bytes[256],
     clauses[REC_CLAUSES], sights[SIGHTS], decoys[DECOYS];
@@ -153,7 +157,8 @@ static enum rec_clause clause_of(const struct rec_store *store, size_t letter)
         if (cell == 3 && sent.used[0] == 3)
             return REC_LAST_NOT_1;
         sent.cells[1] = cell > 2 ? (int32_t)cell : table[1];
-        a = rec_store_run(sent.cells, sent.used, sent.variables, 'a', cell > 2, &loan);
+        a = rec_store_run(sent.cells, sent.used, sent.marks, sent.variables, 'a', REC_CASHIER,
+                          cell > 2, &loan);
         if (a.number == REC_DAMAGED)
             return a.clause;
     }
@@ -166,6 +171,7 @@ static void look_for_damage(struct scene *s)
     static struct rec_store alone;
     alone = s->store;
     memset(alone.used, 0, sizeof alone.used);
+    memset(alone.marks, REC_OPEN, sizeof alone.marks);
     memset(alone.variables, 0, sizeof alone.variables);
     for (size_t i = 0; i < REC_LETTERS; i++) {
         alone.used[i] = s->store.used[i];
@@ -257,6 +263,28 @@ static bool is_chain_of_26(const struct scene *s, size_t letter)
     return last != 0;
 }
 
+static uint32_t stewards_of(const struct rec_store *store)
+{
+    uint32_t letters = 0;
+    for (size_t i = 0; i < REC_LETTERS; i++)
+        letters |= store->marks[i] == REC_STEWARD_LETTER ? bit(i) : 0;
+    return letters;
+}
+
+/* What the letter reaches where other steward letters lead no further. */
+static uint32_t reached_openly(const struct scene *s, size_t letter)
+{
+    uint32_t all = bit(letter), last = all, ends = stewards_of(&s->store) & ~all;
+    while (last != 0) {
+        uint32_t next = 0;
+        for (size_t i = 0; i < REC_LETTERS; i++)
+            next |= last & ~ends & bit(i) ? s->calls[i] : 0;
+        last = next & ~all;
+        all |= last;
+    }
+    return all;
+}
+
 static void count_report(const struct scene *s, size_t letter, uint32_t reached, uint32_t missing)
 {
     uint32_t led[DECOYS] = {0}, all = bit(REC_LETTERS) - 1;
@@ -282,6 +310,8 @@ static void count_report(const struct scene *s, size_t letter, uint32_t reached,
     saw(s->store.used[letter] == REC_CELLS, USED_250);
     saw(full, ALL_FULL);
     saw(s->altered, TABLE_CHANGED);
+    saw(stewards_of(&s->store) & bit(letter), STEWARDS_ITSELF);
+    saw(reached != reached_openly(s, letter), STEWARDS_LEADS);
 }
 
 /* A damaged table leads to no letter, but may be led to. */
@@ -308,14 +338,19 @@ static void count_damage(const struct scene *s, size_t letter)
 
 static void count_bad(const struct scene *s)
 {
-    bool small = false, large = false;
+    bool small = false, large = false, standing = false, cleared = false;
     for (size_t i = 0; i < REC_LETTERS; i++) {
+        bool odd = s->store.marks[i] > REC_STEWARD_LETTER;
         small |= s->store.used[i] == 1 || s->store.used[i] == 2;
         large |= s->store.used[i] > REC_CELLS;
+        standing |= odd && s->store.used[i] != 0;
+        cleared |= odd && s->store.used[i] == 0;
     }
     saw(small, SMALL_COUNT);
     saw(large, LARGE_COUNT);
-    saw(!small && !large, BAD_VARIABLE);
+    saw(!small && !large && standing && !cleared, MARK_OF_STANDING);
+    saw(!small && !large && !standing && cleared, MARK_OF_CLEARED);
+    saw(!small && !large && !standing && !cleared, BAD_VARIABLE);
 }
 
 static void count_order(const struct scene *s, uint8_t letter)
@@ -339,7 +374,7 @@ static uint32_t marked(const uint8_t *marks)
 
 /* ---- one comparison ------------------------------------------------------ */
 
-/* Lent marks, between bytes that must stay. */
+/* Lent places, between bytes that must stay. */
 struct marks {
     uint8_t before[GUARD];
     uint8_t reached[REC_LETTERS];
@@ -361,7 +396,7 @@ static void soil_marks(struct random *r, struct marks *marks)
         all[i] = (uint8_t)between(r, 2, 255);
 }
 
-static bool same_marks(const struct marks *expected, const struct marks *got)
+static bool same_places(const struct marks *expected, const struct marks *got)
 {
     const uint8_t *one = (const uint8_t *)expected, *other = (const uint8_t *)got;
     bool good = true;
@@ -372,7 +407,7 @@ static bool same_marks(const struct marks *expected, const struct marks *got)
         good &= same("missing", (long long)i, expected->missing[i], got->missing[i]);
     }
     for (size_t i = 0; i < sizeof *got && good; i++)
-        good &= same("byte around the marks", (long long)i, one[i], other[i]);
+        good &= same("byte around them", (long long)i, one[i], other[i]);
     return false;
 }
 
@@ -402,11 +437,11 @@ static bool compare(struct random *r, const struct scene *s, uint8_t letter, str
     expected.marks = got->marks = soiled;
     expected.number =
         rec_store_reach(store, letter, expected.marks.reached, expected.marks.missing);
-    good = engine_reach(store->cells, store->used, store->variables, letter, got->marks.reached,
-                        got->marks.missing, &got->number);
+    good = engine_reach(store->cells, store->used, store->marks, store->variables, letter,
+                        got->marks.reached, got->marks.missing, &got->number);
     good &= same("number", 0, expected.number, got->number);
-    good &= same_marks(expected.number == 0 ? &expected.marks : &soiled, &got->marks);
-    good &= same_marks(expected.number == 0 ? &expected.marks : &soiled, &expected.marks);
+    good &= same_places(expected.number == 0 ? &expected.marks : &soiled, &got->marks);
+    good &= same_places(expected.number == 0 ? &expected.marks : &soiled, &expected.marks);
     if (s->origin == BY_CALLS && (got->number == REC_BAD_STORE || got->number == REC_DAMAGED)) {
         printf("  number %u on a store from such calls\n", (unsigned)got->number);
         good = false;
@@ -476,16 +511,25 @@ static bool begin(struct random *r, struct history *h)
     return true;
 }
 
-/* What U2 says of a run: refused 13, 1 or 10 as a reach is, and ended 27 only where a
- * letter is missing. Both are the engine's, of the same store. */
-static bool hold_run(const struct report *report, uint32_t number)
+/* What U2 says of a run: refused 13, 1 or 10 as a reach is, where its role is one of the
+ * two, and ended 27 only where a letter is missing. By U7 ended 34 only where it is a
+ * cashier's and a steward letter is reached. Both are the engine's, of the same store. */
+static bool hold_run(const struct scene *s, const struct report *report, uint8_t role,
+                     uint32_t number)
 {
     bool refused = number == REC_NO_SUCH_LETTER || number == REC_NOT_STANDING;
-    bool lacks = report->number == 0 && marked(report->marks.missing) != 0;
-    bool ran = number == REC_FINISHED || number >= REC_SPENT;
-    bool good = same("number of the reach before the run", 0, refused ? number : 0, report->number);
+    bool told = report->number == 0, ran = !is_refusal(number), good = true;
+    bool lacks = told && marked(report->marks.missing) != 0;
+    bool barred = told && role == REC_CASHIER
+                  && (marked(report->marks.reached) & s->standing & stewards_of(&s->store)) != 0;
+    if (number != REC_BAD_MARK)
+        good = same("number of the reach before the run", 0, refused ? number : 0, report->number);
     if (number == REC_NO_TEXT && !lacks) {
         puts("  a run ended 27, and the reach before it marked no letter missing");
+        good = false;
+    }
+    if (number == REC_STEWARD_CALL && !barred) {
+        puts("  a run ended 34, and the reach before it marked no steward letter");
         good = false;
     }
     if (number == REC_BAD_STORE || number == REC_DAMAGED) {
@@ -495,6 +539,8 @@ static bool hold_run(const struct report *report, uint32_t number)
     saw(number == REC_NO_TEXT, RUN_27);
     saw(ran && number != REC_NO_TEXT && lacks, RUN_NOT_27);
     saw(ran && !lacks, RUN_NONE_MISSING);
+    saw(number == REC_STEWARD_CALL, RUN_34);
+    saw(ran && number != REC_STEWARD_CALL && barred, RUN_NOT_34);
     return good;
 }
 
@@ -519,10 +565,9 @@ static bool make_call(struct random *r, struct history *h, const struct call *ca
     call_store(&h->reference, call, &h->expected);
     good = call_engine(&s->store, call, &h->got);
     good &= same_sides(&h->expected, &h->got);
-    good &= same_variables(h->reference.variables, s->store.variables);
-    good &= same_tables(&h->reference, &s->store);
+    good &= same_stores(&h->reference, &s->store);
     if (call->kind == RUN)
-        good &= hold_run(&report, h->got.number);
+        good &= hold_run(s, &report, call->role, h->got.number);
     else if (h->got.number == 0)
         s->comments[call->letter - 'a'] =
             call->kind == DEFINE ? letters_in_comments(&call->text) : 0;
@@ -532,21 +577,24 @@ static bool make_call(struct random *r, struct history *h, const struct call *ca
     return good && compare(r, s, call->letter, &report) && compare_some(r, s, 2);
 }
 
-static bool define(struct random *r, struct history *h, uint8_t letter, const struct text *text)
+static bool define(struct random *r, struct history *h, uint8_t letter, uint8_t mark,
+                   const struct text *text)
 {
     static struct call call;
     call.kind = DEFINE;
     call.letter = letter;
+    call.mark = mark;
     call.text = *text;
     return make_call(r, h, &call);
 }
 
-static bool define_words(struct random *r, struct history *h, uint8_t letter, const char *words)
+static bool define_words(struct random *r, struct history *h, uint8_t letter, uint8_t mark,
+                         const char *words)
 {
     struct text text;
     text_clear(&text);
     text_add(&text, words);
-    return define(r, h, letter, &text);
+    return define(r, h, letter, mark, &text);
 }
 
 static bool withdraw(struct random *r, struct history *h, uint8_t letter)
@@ -557,11 +605,13 @@ static bool withdraw(struct random *r, struct history *h, uint8_t letter)
     return make_call(r, h, &call);
 }
 
-static bool run(struct random *r, struct history *h, uint8_t letter, uint32_t allowance)
+static bool run(struct random *r, struct history *h, uint8_t letter, uint8_t role,
+                uint32_t allowance)
 {
     static struct call call;
     call.kind = RUN;
     call.letter = letter;
+    call.role = role;
     call.allowance = allowance;
     choose_loan(r, &call);
     return make_call(r, h, &call);
@@ -616,19 +666,20 @@ static bool texts_by_hand(struct random *r, struct history *h)
         {"(w", "qabcdefg", "abcdefg"}, {"(w)w", "qabcdefg", "abcdefg"}};
     bool good = true;
     for (size_t i = 0; i < sizeof rows / sizeof rows[0] && good; i++)
-        good = define_words(r, h, 'q', rows[i].text)
+        good = define_words(r, h, 'q', i % 2, rows[i].text)
                && expect_marks(r, &h->scene, 'q', rows[i].reached, rows[i].missing);
     return good;
 }
 
-/* Letters first to last, each calling the next, and the last the given byte. */
+/* Letters first to last, each calling the next, and the last the given byte; every third is
+ * a steward letter. */
 static bool make_chain(struct random *r, struct history *h, const char *order, char last)
 {
     char words[] = "( ;)";
     bool good = begin(r, h);
     for (size_t i = 0; i < REC_LETTERS && good; i++) {
         words[1] = i + 1 < REC_LETTERS ? order[i + 1] : last;
-        good = define_words(r, h, (uint8_t)order[i], words);
+        good = define_words(r, h, (uint8_t)order[i], i % 3 == 1, words);
     }
     return good;
 }
@@ -653,13 +704,14 @@ static bool chains(struct random *r, struct history *h)
                && make_chain(r, h, order, order[0]);
         for (size_t j = 0; j < REC_LETTERS && good; j++)
             good = expect_marks(r, &h->scene, (uint8_t)order[j], order, "");
-        good = good && run(r, h, first, 1000) && withdraw(r, h, last)
+        good = good && run(r, h, first, REC_STEWARD, 1000) && withdraw(r, h, last)
                && expect_marks(r, &h->scene, first, order, order + 25)
-               && expect_number(r, &h->scene, last, REC_NOT_STANDING) && run(r, h, first, 1000)
-               && withdraw(r, h, (uint8_t)order[1]);
+               && expect_number(r, &h->scene, last, REC_NOT_STANDING)
+               && run(r, h, first, REC_STEWARD, 1000) && withdraw(r, h, (uint8_t)order[1]);
         if (good) {
             char reached[] = {order[0], order[1], 0}, missing[] = {order[1], 0};
-            good = expect_marks(r, &h->scene, first, reached, missing) && run(r, h, first, 9)
+            good = expect_marks(r, &h->scene, first, reached, missing)
+                   && run(r, h, first, REC_CASHIER, 9)
                    && expect_number(r, &h->scene, (uint8_t)order[1], REC_NOT_STANDING);
         }
     }
@@ -670,30 +722,47 @@ static bool chains(struct random *r, struct history *h)
 static bool lists_by_hand(struct random *r, struct history *h)
 {
     const struct scene *s = &h->scene;
-    return begin(r, h) && define_words(r, h, 'd', "(e;f)") && define_words(r, h, 'm', "(Id;)")
-           && define_words(r, h, 'e', "(m;g)") && expect_marks(r, s, 'm', "mdefg", "fg")
+    return begin(r, h) && define_words(r, h, 'd', 0, "(e;f)") && define_words(r, h, 'm', 0, "(Id;)")
+           && define_words(r, h, 'e', 0, "(m;g)") && expect_marks(r, s, 'm', "mdefg", "fg")
            && expect_marks(r, s, 'e', "mdefg", "fg") && withdraw(r, h, 'd')
            && expect_marks(r, s, 'm', "md", "d") && expect_marks(r, s, 'e', "emdg", "dg")
-           && expect_number(r, s, 'd', REC_NOT_STANDING) && run(r, h, 'e', 100)
-           && define_words(r, h, 'd', "(d;)") && expect_marks(r, s, 'm', "md", "")
+           && expect_number(r, s, 'd', REC_NOT_STANDING) && run(r, h, 'e', 0, 100)
+           && define_words(r, h, 'd', 0, "(d;)") && expect_marks(r, s, 'm', "md", "")
            /* missing, though no run comes to it */
-           && define_words(r, h, 'm', "(;w)") && expect_marks(r, s, 'm', "mw", "w")
-           && run(r, h, 'm', 9) && define_words(r, h, 'm', "(w;)") && run(r, h, 'm', 9)
-           && define_words(r, h, 'w', "()") && run(r, h, 'm', 9);
+           && define_words(r, h, 'm', 0, "(;w)") && expect_marks(r, s, 'm', "mw", "w")
+           && run(r, h, 'm', 0, 9) && define_words(r, h, 'm', 0, "(w;)") && run(r, h, 'm', 0, 9)
+           && define_words(r, h, 'w', 0, "()") && run(r, h, 'm', 0, 9);
+}
+
+/* Marks are nothing to a reach: `t` is a steward letter, and `s` is one, then open, then
+ * cleared. Runs by both roles, and by neither. */
+static bool stewards_by_hand(struct random *r, struct history *h)
+{
+    const struct scene *s = &h->scene;
+    bool good = begin(r, h) && define_words(r, h, 'a', 0, "(s;)")
+                && define_words(r, h, 't', 1, "(u;m)") && define_words(r, h, 'u', 0, "(;a)");
+    for (int open = 0; open < 2 && good; open++)
+        good = define_words(r, h, 's', !open, "(t;)") && expect_marks(r, s, 'a', "astum", "m")
+               && expect_marks(r, s, 's', "astum", "m") && run(r, h, 'a', 0, 99)
+               && run(r, h, 's', 0, 99) && run(r, h, 'u', 0, 9) && run(r, h, 'a', 1, 99)
+               && run(r, h, 's', 1, 99) && run(r, h, 's', 2, 99) && run(r, h, 'm', 255, 99);
+    return good && withdraw(r, h, 's') && expect_marks(r, s, 'a', "as", "s")
+           && run(r, h, 'a', 0, 9) && define_words(r, h, 's', 2, "(;)")
+           && expect_marks(r, s, 'a', "as", "s");
 }
 
 static bool lists_of_calls(struct random *r)
 {
     static struct history h;
     return begin(r, &h) && compare_all(r, &h.scene) && texts_by_hand(r, &h) && chains(r, &h)
-           && lists_by_hand(r, &h);
+           && lists_by_hand(r, &h) && stewards_by_hand(r, &h);
 }
 
 static struct scene made; /* of the directed cases on changed stores */
 
 static void define_made(uint8_t letter, const char *words)
 {
-    rec_store_define(&made.store, letter, (const uint8_t *)words, strlen(words));
+    rec_store_define(&made.store, letter, REC_OPEN, (const uint8_t *)words, strlen(words));
 }
 
 static void fresh_made(void)
@@ -912,7 +981,7 @@ static bool full_tables(struct random *r)
         text_fill(&text, "N", 122);
         text_byte(&text, alphabet[(i + 1) % REC_LETTERS]);
         text_add(&text, ")");
-        rec_store_define(&made.store, alphabet[i], text.bytes, text.length);
+        rec_store_define(&made.store, alphabet[i], REC_STEWARD_LETTER, text.bytes, text.length);
     }
     look(&made);
     if (!compare_all(r, &made)
@@ -1004,13 +1073,15 @@ struct plan {
     enum { CHAIN, NET, LIVELY } shape;
     uint8_t order[REC_LETTERS];
     size_t count;
-    uint8_t last; /* what the last of a chain calls */
+    uint8_t last;   /* what the last of a chain calls */
+    uint32_t marks; /* percent of steward letters */
 };
 
 static void choose_plan(struct random *r, struct plan *plan)
 {
     uint32_t pick = below(r, 100);
     plan->shape = pick < 35 ? CHAIN : pick < 75 ? NET : LIVELY;
+    plan->marks = chance(r, 40) ? 0 : (uint32_t)between(r, 5, 60);
     memcpy(plan->order, alphabet, REC_LETTERS);
     if (plan->shape == LIVELY) {
         plan->count = FEW;
@@ -1047,7 +1118,7 @@ static bool define_all(struct random *r, struct history *h, const struct plan *p
     for (size_t i = 0; i < REC_LETTERS && good; i++)
         if (places[i] < plan->count && !chance(r, 3)) {
             choose_text(r, plan, places[i], &text);
-            good = define(r, h, plan->order[places[i]], &text);
+            good = define(r, h, plan->order[places[i]], chance(r, plan->marks), &text);
         }
     return good;
 }
@@ -1059,11 +1130,11 @@ static bool any_call(struct random *r, struct history *h, const struct plan *pla
     size_t place = below(r, (uint32_t)plan->count);
     uint8_t letter = chance(r, 94) ? plan->order[place] : (uint8_t)below(r, 256);
     if (pick < 50)
-        return run(r, h, letter, below(r, chance(r, 80) ? 500 : 3000));
+        return run(r, h, letter, some_mark(r, 40), below(r, chance(r, 80) ? 500 : 3000));
     if (pick < 75)
         return withdraw(r, h, letter);
     choose_text(r, plan, place, &text);
-    return define(r, h, letter, &text);
+    return define(r, h, letter, some_mark(r, plan->marks), &text);
 }
 
 static bool round_of_calls(struct random *r)
@@ -1089,7 +1160,7 @@ static void make_net(struct random *r, struct rec_store *store)
     for (size_t i = 0; i < REC_LETTERS; i++)
         if (chance(r, percent)) {
             text_of_net(r, alphabet, REC_LETTERS, &text);
-            rec_store_define(store, alphabet[i], text.bytes, text.length);
+            rec_store_define(store, alphabet[i], chance(r, 30), text.bytes, text.length);
         }
 }
 
@@ -1109,7 +1180,7 @@ static void make_full(struct random *r, struct rec_store *store)
                 text_byte(&text, chance(r, 2) ? any_letter(r) : 'N');
         }
         text_add(&text, ")");
-        rec_store_define(store, alphabet[i], text.bytes, text.length);
+        rec_store_define(store, alphabet[i], chance(r, 30), text.bytes, text.length);
     }
 }
 

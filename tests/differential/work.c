@@ -120,7 +120,8 @@ const char *number_word(uint32_t number)
         "bad counter", "bad constant", "unfinished", "table full", "many counters",
         "not standing", "bad input", "bad list", "bad store", "bad line", NULL, NULL, NULL,
         NULL, NULL, "spent", "list empty", "list full", "range", "zero divisor", "no input",
-        "paper out", "no text", "deep calls", "damaged", "short paper", "bad pool", "no winner"};
+        "paper out", "no text", "deep calls", "damaged", "short paper", "bad pool", "no winner",
+        "not for cashiers", "steward call", "bad mark"};
     bool known = number < sizeof words / sizeof words[0] && words[number] != NULL;
     return known ? words[number] : "no number of the documents";
 }

@@ -37,14 +37,22 @@ static int guarded(void) {
            lent.guard_f == guard && lent.guard_g == guard && lent.guard_h == guard;
 }
 
-static int32_t define(char letter, const char *text) { return rec_define(&lent.store, (uint8_t)letter, (const uint8_t *)text, strlen(text)); }
+static int32_t define_as(char letter, uint8_t mark, const char *text) {
+    return rec_define(&lent.store, (uint8_t)letter, mark, (const uint8_t *)text, strlen(text));
+}
 
-/* A run with the list and the paper full of marks. */
-static int32_t run_for(char letter, uint32_t allowance, const int32_t *inputs, size_t count) {
+static int32_t define(char letter, const char *text) { return define_as(letter, REC_OPEN, text); }
+
+/* A run with the list, the paper and the report full of bytes that show what is written. */
+static int32_t run_as(char letter, uint8_t role, uint32_t allowance, const int32_t *inputs, size_t count, size_t places) {
     memset(lent.list, MARK, sizeof lent.list);
     memset(lent.paper, MARK, sizeof lent.paper);
     memset(&lent.report, MARK, sizeof lent.report);
-    return rec_run(&lent.store, (uint8_t)letter, allowance, inputs, count, lent.list, REC_LIST, lent.paper, PAPER, &lent.report);
+    return rec_run(&lent.store, (uint8_t)letter, role, allowance, inputs, count, lent.list, places, lent.paper, PAPER, &lent.report);
+}
+
+static int32_t run_for(char letter, uint32_t allowance, const int32_t *inputs, size_t count) {
+    return run_as(letter, REC_CASHIER, allowance, inputs, count, REC_LIST);
 }
 
 static int32_t run(char letter, const int32_t *inputs, size_t count) { return run_for(letter, ALLOWANCE, inputs, count); }
@@ -69,20 +77,22 @@ static void fresh(void) {
     HOLDS(all_bytes(&lent.store, sizeof lent.store, 0));
 }
 
-/* Each letter's cells, count and variable stand where the header says. */
+/* Each letter's cells, count, mark and variable stand where the header says. */
 static void places_of_a_store(void) {
     static const int32_t table[] = {2000, -78, 5, 6, 0, 1};
     fresh();
     for (size_t k = 0; k < REC_LETTERS; k++) {
         const int32_t *cells = lent.store.cells + k * REC_CELLS;
-        HOLDS(define((char)('a' + k), "(N;)") == REC_FINISHED);
+        HOLDS(define_as((char)('a' + k), REC_STEWARDS, "(N;)") == REC_FINISHED);
         HOLDS(lent.store.used[k] == 6);
+        HOLDS(lent.store.marks[k] == REC_STEWARDS);
         HOLDS(memcmp(cells, table, sizeof table) == 0);
         HOLDS(all_bytes(cells + 6, (REC_LETTERS - k) * REC_CELLS * sizeof *cells - sizeof table, 0));
-        HOLDS(k == REC_LETTERS - 1 || lent.store.used[k + 1] == 0);
+        HOLDS(k == REC_LETTERS - 1 || (lent.store.used[k + 1] == 0 && lent.store.marks[k + 1] == REC_OPEN));
     }
     HOLDS(rec_withdraw(&lent.store, 'b') == REC_FINISHED);
     HOLDS(lent.store.used[0] == 6 && lent.store.used[1] == 0 && lent.store.used[2] == 6);
+    HOLDS(lent.store.marks[0] == REC_STEWARDS && lent.store.marks[1] == REC_OPEN && lent.store.marks[2] == REC_STEWARDS);
     HOLDS(all_bytes(lent.store.cells + REC_CELLS, REC_CELLS * sizeof(int32_t), 0));
     for (int k = 0; k < REC_VARIABLES; k++) {
         char text[] = "('/9'S0;)";
@@ -115,10 +125,10 @@ static void just_enough(void) {
     const int32_t inputs[] = {10, -20, 30, -40};
     fresh();
     HOLDS(define('q', "(''HELLO'IIIIL;)") == REC_FINISHED);
-    HOLDS(rec_run(&lent.store, 'q', 7, inputs, 4, lent.list, REC_LIST, lent.paper, 5, &lent.report) == REC_FINISHED && figures(1, 7, 3, 4, 5));
-    HOLDS(rec_run(&lent.store, 'q', 6, inputs, 4, lent.list, REC_LIST, lent.paper, 5, &lent.report) == REC_SPENT && figures(0, 6, 3, 4, 5));
-    HOLDS(rec_run(&lent.store, 'q', 7, inputs, 3, lent.list, REC_LIST, lent.paper, 5, &lent.report) == REC_NO_INPUT && figures(0, 4, 3, 3, 5));
-    HOLDS(rec_run(&lent.store, 'q', 7, inputs, 4, lent.list, REC_LIST, lent.paper, 4, &lent.report) == REC_PAPER_OUT && figures(0, 0, 0, 0, 0));
+    HOLDS(rec_run(&lent.store, 'q', REC_CASHIER, 7, inputs, 4, lent.list, REC_LIST, lent.paper, 5, &lent.report) == REC_FINISHED && figures(1, 7, 3, 4, 5));
+    HOLDS(rec_run(&lent.store, 'q', REC_CASHIER, 6, inputs, 4, lent.list, REC_LIST, lent.paper, 5, &lent.report) == REC_SPENT && figures(0, 6, 3, 4, 5));
+    HOLDS(rec_run(&lent.store, 'q', REC_CASHIER, 7, inputs, 3, lent.list, REC_LIST, lent.paper, 5, &lent.report) == REC_NO_INPUT && figures(0, 4, 3, 3, 5));
+    HOLDS(rec_run(&lent.store, 'q', REC_CASHIER, 7, inputs, 4, lent.list, REC_LIST, lent.paper, 4, &lent.report) == REC_PAPER_OUT && figures(0, 0, 0, 0, 0));
 }
 
 static void ends_of_a_run(void) {
@@ -136,6 +146,36 @@ static void ends_of_a_run(void) {
     HOLDS(define('a', "(p;)") == REC_FINISHED && rec_withdraw(&lent.store, 'p') == REC_FINISHED);
     HOLDS(run('a', inputs, 2) == REC_NO_TEXT && figures(0, 0, 0, 0, 0));
     HOLDS(run('p', inputs, 2) == REC_NOT_STANDING);
+}
+
+/* ---- marks and roles ---- */
+
+/* The mark is that of the last accepted define, and the role that of the run alone. */
+static void marks_of_letters(void) {
+    const int32_t five = 5;
+    fresh();
+    HOLDS(define_as('q', REC_STEWARDS, "(IS1;)") == REC_FINISHED && lent.store.marks[16] == REC_STEWARDS);
+    HOLDS(run('q', &five, 1) == REC_NOT_FOR_CASHIERS && lent.store.vars[1] == 0);
+    HOLDS(run_as('q', REC_STEWARD, ALLOWANCE, &five, 1, REC_LIST) == REC_FINISHED && figures(1, 3, 1, 1, 0) && lent.store.vars[1] == 5);
+    HOLDS(run('q', &five, 1) == REC_NOT_FOR_CASHIERS);
+    HOLDS(define('q', "(I;)") == REC_FINISHED && lent.store.marks[16] == REC_OPEN);
+    HOLDS(run('q', &five, 1) == REC_FINISHED && run_as('q', REC_STEWARD, ALLOWANCE, &five, 1, REC_LIST) == REC_FINISHED);
+    HOLDS(define_as('q', REC_STEWARDS, "(I;)") == REC_FINISHED && define('q', "(I") == REC_UNFINISHED && lent.store.marks[16] == REC_STEWARDS);
+    HOLDS(rec_withdraw(&lent.store, 'q') == REC_FINISHED && lent.store.marks[16] == REC_OPEN);
+    HOLDS(run('q', &five, 1) == REC_NOT_STANDING && define('q', "(I;)") == REC_FINISHED && run('q', &five, 1) == REC_FINISHED);
+}
+
+/* A steward letter that is called, at once and through another: a cashier's run ends before it, and keeps no variable. */
+static void steward_calls(void) {
+    fresh();
+    HOLDS(define_as('s', REC_STEWARDS, "('/9'S2;)") == REC_FINISHED && define('a', "('/7'S1s;)") == REC_FINISHED && define('b', "(''x'a;)") == REC_FINISHED);
+    HOLDS(run('a', NULL, 0) == REC_STEWARD_CALL && figures(0, 2, 1, 0, 0) && lent.list[0] == 7 && lent.store.vars[1] == 0);
+    HOLDS(run('b', NULL, 0) == REC_STEWARD_CALL && figures(0, 4, 1, 0, 1) && lent.paper[0] == 'x' && lent.store.vars[1] == 0);
+    HOLDS(run_for('b', 4, NULL, 0) == REC_SPENT && run_for('b', 5, NULL, 0) == REC_STEWARD_CALL);
+    HOLDS(run_as('b', REC_STEWARD, ALLOWANCE, NULL, 0, REC_LIST) == REC_FINISHED && figures(1, 10, 2, 0, 1));
+    HOLDS(lent.store.vars[1] == 7 && lent.store.vars[2] == 9);
+    HOLDS(define('s', "(;)") == REC_FINISHED && run('b', NULL, 0) == REC_FINISHED);
+    HOLDS(rec_withdraw(&lent.store, 's') == REC_FINISHED && run('b', NULL, 0) == REC_NO_TEXT);
 }
 
 /* ---- what a letter can reach ---- */
@@ -209,6 +249,9 @@ static void refused_reaches(void) {
     lent.store.used[25] = REC_CELLS + 1;
     HOLDS(refused_reach(REC_BAD_STORE, 'q') && refused_reach(REC_BAD_STORE, 'a') && refused_reach(REC_BAD_STORE, 'Q'));
     lent.store.used[25] = 0;
+    lent.store.marks[25] = REC_STEWARDS + 1;
+    HOLDS(refused_reach(REC_BAD_STORE, 'q') && refused_reach(REC_BAD_STORE, 'a') && refused_reach(REC_BAD_STORE, 'Q'));
+    lent.store.marks[25] = REC_STEWARDS;
     lent.store.cells[17 * REC_CELLS + 2] = 5;
     HOLDS(reports('q', "q", "") && reports('r', "r", ""));
 }
@@ -223,34 +266,89 @@ static void nulls(void) {
     HOLDS(rec_link((const uint8_t *)"()", 2, NULL, 0, &used) == REC_FINISHED && used == 3);
     HOLDS(rec_fair_copy(NULL, 0, NULL, 0, &written) == REC_UNFINISHED && written == 0);
     HOLDS(rec_fair_copy((const uint8_t *)"()", 2, NULL, 0, &written) == REC_SHORT_PAPER && written == 0);
-    HOLDS(rec_define(&lent.store, 'q', NULL, 0) == REC_UNFINISHED);
+    HOLDS(rec_define(&lent.store, 'q', REC_OPEN, NULL, 0) == REC_UNFINISHED);
     HOLDS(define('q', "(;)") == REC_FINISHED);
     HOLDS(define('o', "(''A';)") == REC_FINISHED);
-    HOLDS(rec_run(&lent.store, 'q', ALLOWANCE, NULL, 0, lent.list, REC_LIST, NULL, 0, &lent.report) == REC_FINISHED && figures(1, 1, 0, 0, 0));
-    HOLDS(rec_run(&lent.store, 'o', ALLOWANCE, NULL, 0, lent.list, REC_LIST, NULL, 0, &lent.report) == REC_PAPER_OUT && figures(0, 0, 0, 0, 0));
-    HOLDS(rec_run(&lent.store, 'q', ALLOWANCE, NULL, 0, NULL, 0, NULL, 0, &lent.report) == REC_BAD_LIST && figures(0, 0, 0, 0, 0));
+    HOLDS(rec_run(&lent.store, 'q', REC_CASHIER, ALLOWANCE, NULL, 0, lent.list, REC_LIST, NULL, 0, &lent.report) == REC_FINISHED && figures(1, 1, 0, 0, 0));
+    HOLDS(rec_run(&lent.store, 'o', REC_CASHIER, ALLOWANCE, NULL, 0, lent.list, REC_LIST, NULL, 0, &lent.report) == REC_PAPER_OUT && figures(0, 0, 0, 0, 0));
+    HOLDS(rec_run(&lent.store, 'q', REC_CASHIER, ALLOWANCE, NULL, 0, NULL, 0, NULL, 0, &lent.report) == REC_BAD_LIST && figures(0, 0, 0, 0, 0));
 }
 
 /* ---- refusals: the number, and nothing changed ---- */
 
-static int refused_define(int32_t number, char letter, const char *text) {
+static int refused_define_as(int32_t number, char letter, uint8_t mark, const char *text) {
     before = lent.store;
-    return define(letter, text) == number && memcmp(&before, &lent.store, sizeof before) == 0;
+    return define_as(letter, mark, text) == number && unchanged();
 }
+
+static int refused_define(int32_t number, char letter, const char *text) { return refused_define_as(number, letter, REC_OPEN, text); }
 
 static int refused_withdraw(int32_t number, char letter) {
     before = lent.store;
-    return rec_withdraw(&lent.store, (uint8_t)letter) == number && memcmp(&before, &lent.store, sizeof before) == 0;
+    return rec_withdraw(&lent.store, (uint8_t)letter) == number && unchanged();
 }
 
-static int refused_run(int32_t number, char letter, int32_t input, size_t places) {
+static int refused_run_as(int32_t number, char letter, uint8_t role, int32_t input, size_t places) {
     before = lent.store;
-    memset(lent.list, MARK, sizeof lent.list);
-    memset(lent.paper, MARK, sizeof lent.paper);
-    memset(&lent.report, MARK, sizeof lent.report);
-    return rec_run(&lent.store, (uint8_t)letter, ALLOWANCE, &input, 1, lent.list, places, lent.paper, PAPER, &lent.report) == number &&
-           figures(0, 0, 0, 0, 0) && memcmp(&before, &lent.store, sizeof before) == 0 && all_bytes(lent.list, sizeof lent.list, MARK) &&
-           all_bytes(lent.paper, sizeof lent.paper, MARK);
+    return run_as(letter, role, ALLOWANCE, &input, 1, places) == number && figures(0, 0, 0, 0, 0) && unchanged() &&
+           all_bytes(lent.list, sizeof lent.list, MARK) && all_bytes(lent.paper, sizeof lent.paper, MARK);
+}
+
+static int refused_run(int32_t number, char letter, int32_t input, size_t places) { return refused_run_as(number, letter, REC_CASHIER, input, places); }
+
+/* Document 02's, alone and before and after those of document 01. */
+static void refusals_of_roles(void) {
+    static char longer[258];
+    memset(longer, 'B', 257);
+    fresh();
+    HOLDS(define_as('q', REC_STEWARDS, "(IS1;)") == REC_FINISHED);
+    for (int other = 2; other <= UINT8_MAX; other++) {
+        uint8_t neither = (uint8_t)other;
+        HOLDS(refused_define_as(REC_NO_SUCH_LETTER, 'Q', neither, longer) && refused_define_as(REC_BAD_MARK, 'q', neither, longer));
+        HOLDS(refused_define_as(REC_BAD_MARK, 'a', neither, "(") && refused_define_as(REC_BAD_MARK, 'q', neither, "()"));
+        HOLDS(refused_run_as(REC_NO_SUCH_LETTER, 'Q', neither, 0, 0) && refused_run_as(REC_BAD_MARK, 'a', neither, 0, 0));
+        HOLDS(refused_run_as(REC_BAD_MARK, 'q', neither, REC_VALUE_MAX + 1, 0) && refused_run_as(REC_BAD_MARK, 'q', neither, 0, REC_LIST));
+    }
+    HOLDS(refused_run(REC_NOT_STANDING, 'a', 0, REC_LIST) && refused_run_as(REC_NOT_STANDING, 'a', REC_STEWARD, 0, REC_LIST));
+    HOLDS(refused_run(REC_NOT_FOR_CASHIERS, 'q', 0, REC_LIST) && refused_run(REC_NOT_FOR_CASHIERS, 'q', REC_VALUE_MAX + 1, 0));
+    HOLDS(refused_run_as(REC_BAD_INPUT, 'q', REC_STEWARD, REC_VALUE_MAX + 1, 0) && refused_run_as(REC_BAD_LIST, 'q', REC_STEWARD, 0, 0));
+}
+
+/* A store in which a letter, cleared or standing, has a mark that is neither: 13 before all others. The marks are 32 bits wide. */
+static void refusals_by_a_mark(void) {
+    static const uint32_t neither[] = {2, 255, 256, 257, 65536, 65537, UINT32_C(1) << 31, (UINT32_C(1) << 31) + 1, UINT32_MAX};
+    fresh();
+    HOLDS(define('q', "(IS1;)") == REC_FINISHED);
+    for (size_t k = 0; k < REC_LETTERS; k++) {
+        for (size_t i = 0; i < sizeof neither / sizeof *neither; i++) {
+            lent.store.marks[k] = neither[i];
+            HOLDS(refused_define(REC_BAD_STORE, 'q', "()") && refused_define_as(REC_BAD_STORE, 'Q', 2, "("));
+            HOLDS(refused_withdraw(REC_BAD_STORE, 'q') && refused_withdraw(REC_BAD_STORE, 'Q'));
+            HOLDS(refused_run(REC_BAD_STORE, 'q', 0, REC_LIST) && refused_run_as(REC_BAD_STORE, 'q', REC_STEWARD, 0, REC_LIST));
+            HOLDS(refused_run_as(REC_BAD_STORE, 'Q', 2, 0, 0) && refused_reach(REC_BAD_STORE, 'q'));
+        }
+        lent.store.marks[k] = REC_OPEN;
+    }
+    lent.store.marks[0] = REC_STEWARDS; /* a cleared letter's: 10 before 33, 27 before 34 */
+    HOLDS(refused_run(REC_NOT_STANDING, 'a', 0, REC_LIST) && refused_withdraw(REC_NOT_STANDING, 'a'));
+    HOLDS(define('q', "(a;)") == REC_FINISHED && run('q', NULL, 0) == REC_NO_TEXT);
+}
+
+/* The archive's own functions take a mark and a role as 32 bits, and refuse the same. */
+static void wide_marks_and_roles(void) {
+    static const uint32_t neither[] = {2, 256, 257, UINT32_C(1) << 31, UINT32_MAX};
+    static size_t report[5];
+    rec_store *s = &lent.store;
+    const uint8_t *text = (const uint8_t *)"()";
+    fresh();
+    HOLDS(rec_lent_define(s->cells, s->used, s->marks, s->vars, 'q', REC_STEWARDS, text, 2) == REC_FINISHED && s->marks[16] == REC_STEWARDS);
+    before = *s;
+    for (size_t i = 0; i < sizeof neither / sizeof *neither; i++) {
+        HOLDS(rec_lent_define(s->cells, s->used, s->marks, s->vars, 'q', neither[i], text, 2) == REC_BAD_MARK && unchanged());
+        HOLDS(rec_lent_run(s->cells, s->used, s->marks, s->vars, 'q', neither[i], ALLOWANCE, NULL, 0, lent.list, REC_LIST, NULL, 0, report) == REC_BAD_MARK &&
+              unchanged());
+    }
+    HOLDS(rec_lent_run(s->cells, s->used, s->marks, s->vars, 'q', REC_STEWARD, ALLOWANCE, NULL, 0, lent.list, REC_LIST, NULL, 0, report) == REC_FINISHED);
 }
 
 /* Every refusal alone, and where several fit the first in document 01's order. */
@@ -455,11 +553,16 @@ int main(void) {
     figures_of_a_run();
     just_enough();
     ends_of_a_run();
+    marks_of_letters();
+    steward_calls();
     reaches();
     reaches_of_all();
     refused_reaches();
     nulls();
     refusals();
+    refusals_of_roles();
+    refusals_by_a_mark();
+    wide_marks_and_roles();
     links();
     fair_copies();
     dividends();

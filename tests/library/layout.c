@@ -4,13 +4,16 @@
 #include "holds.h"
 
 static void layout(void) {
-    HOLDS(sizeof(rec_store) == 26248);
+    HOLDS(sizeof(rec_store) == 26352);
     HOLDS(offsetof(rec_store, cells) == 0);
     HOLDS(offsetof(rec_store, used) == 26000);
-    HOLDS(offsetof(rec_store, vars) == 26208);
+    HOLDS(offsetof(rec_store, marks) == 26208);
+    HOLDS(offsetof(rec_store, vars) == 26312);
     HOLDS(sizeof(((rec_store *)0)->cells) == 4 * 26 * 250);
     HOLDS(sizeof(((rec_store *)0)->used) == 8 * 26);
+    HOLDS(sizeof(((rec_store *)0)->marks) == 4 * 26);
     HOLDS(sizeof(((rec_store *)0)->vars) == 4 * 10);
+    HOLDS(sizeof(rec_store) == 4 * 26 * 250 + 8 * 26 + 4 * 26 + 4 * 10); /* no padding */
     HOLDS(sizeof(rec_report) == 40);
     HOLDS(sizeof(rec_dividend_report) == 40);
 }

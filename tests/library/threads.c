@@ -11,7 +11,7 @@ enum { THREADS = 8, CALLS = 20000, PAPER = 300, ALLOWANCE = 500 };
 struct day {
     uint32_t seed;
     uint64_t sum; /* of all answers, figures, lists, outputs, fair copies, marks and of the store at the end */
-    int finished, stopped, refused, copied, reported;
+    int finished, stopped, refused, barred, copied, reported;
 };
 
 static uint32_t draw(uint32_t *state, uint32_t below) {
@@ -28,7 +28,7 @@ static void add(struct day *d, const void *at, size_t length) {
 static void add_answer(struct day *d, int32_t answer) {
     add(d, &answer, sizeof answer);
     if (answer == REC_FINISHED) d->finished++;
-    else if (answer >= REC_SPENT && answer <= REC_DAMAGED) d->stopped++;
+    else if ((answer >= REC_SPENT && answer <= REC_DAMAGED) || answer == REC_STEWARD_CALL) d->stopped++;
     else d->refused++;
 }
 
@@ -51,7 +51,8 @@ static void call(struct day *d, rec_store *store, uint32_t *state) {
     uint8_t letter = (uint8_t)('a' + draw(state, 4));
     uint32_t kind = draw(state, 12);
     if (kind < 3) {
-        add_answer(d, rec_define(store, letter, (const uint8_t *)text, write_text(text, state)));
+        uint8_t mark = draw(state, 5) == 0 ? REC_STEWARDS : REC_OPEN;
+        add_answer(d, rec_define(store, letter, mark, (const uint8_t *)text, write_text(text, state)));
     } else if (kind == 3) {
         add_answer(d, rec_withdraw(store, letter));
     } else if (kind == 4) {
@@ -68,11 +69,14 @@ static void call(struct day *d, rec_store *store, uint32_t *state) {
         add(d, missing, sizeof missing);
         if (answer == REC_FINISHED) d->reported++;
     } else {
+        uint8_t role = draw(state, 4) == 0 ? REC_STEWARD : REC_CASHIER;
         for (int i = 0; i < 4; i++) inputs[i] = (int32_t)draw(state, 1000) - 500;
-        int32_t answer = rec_run(store, letter, ALLOWANCE, inputs, 4, list, REC_LIST, paper, PAPER, &report);
+        memset(list, 0, sizeof list);
+        int32_t answer = rec_run(store, letter, role, ALLOWANCE, inputs, 4, list, REC_LIST, paper, PAPER, &report);
         add_answer(d, answer);
         add(d, &report, sizeof report);
-        if (answer == REC_FINISHED || answer >= REC_SPENT) add(d, list, sizeof list);
+        add(d, list, sizeof list);
+        if (answer == REC_NOT_FOR_CASHIERS || answer == REC_STEWARD_CALL) d->barred++;
         add(d, paper, report.written);
     }
 }
@@ -100,8 +104,8 @@ int main(void) {
     for (int k = 0; k < THREADS; k++) HOLDS(pthread_join(threads[k], NULL) == 0);
     for (int k = 0; k < THREADS; k++) {
         HOLDS(together[k].sum == alone[k].sum);
-        HOLDS(alone[k].finished > CALLS / 10 && alone[k].stopped > CALLS / 20 && alone[k].refused > CALLS / 20 && alone[k].copied > CALLS / 50 &&
-              alone[k].reported > CALLS / 50);
+        HOLDS(alone[k].finished > CALLS / 10 && alone[k].stopped > CALLS / 20 && alone[k].refused > CALLS / 20 && alone[k].barred > CALLS / 50 &&
+              alone[k].copied > CALLS / 50 && alone[k].reported > CALLS / 50);
         HOLDS(k == 0 || alone[k].sum != alone[k - 1].sum);
     }
     printf("%d threads with %d calls each\n", THREADS, CALLS);

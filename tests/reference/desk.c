@@ -1,4 +1,6 @@
-/* The desk program of document 01's last section, over the nested meaning.
+/* The desk program of document 01's last section, over the nested meaning. By U7 of
+ * document 02 `D` defines open letters and `R` runs as a cashier, so 33, 34 and 35
+ * never come here.
  *
  *     desk [COUNTS]    lines on standard input, answers on standard output
  *
@@ -136,7 +138,7 @@ static uint32_t desk_define(struct rec_book *book, struct line *line, uint8_t le
 {
     if (!takes(line, ' '))
         return REC_BAD_LINE;
-    return rec_book_define(book, letter, line->bytes + line->at,
+    return rec_book_define(book, letter, REC_OPEN, line->bytes + line->at,
                            line->length - line->at);
 }
 
@@ -153,7 +155,7 @@ static uint32_t desk_run(struct rec_book *book, struct line *line, uint8_t lette
     if (!takes(line, ' ') || !takes_number(line, &allowance)
         || !takes_inputs(line, inputs, &loan.input_length))
         return REC_BAD_LINE;
-    figures->answer = rec_book_run(book, letter, (uint32_t)allowance, &loan);
+    figures->answer = rec_book_run(book, letter, REC_CASHIER, (uint32_t)allowance, &loan);
     if (figures->answer.height > 0)
         figures->top = list[figures->answer.height - 1];
     return figures->answer.number;

@@ -529,6 +529,7 @@ uint32_t rec_clean_print(const uint8_t *text, size_t length, uint8_t *paper,
 struct obeying {
     const struct rec_book *book;
     const struct rec_loan *loan;
+    uint8_t role;
     uint32_t allowance;
     uint32_t steps;
     size_t height;
@@ -730,6 +731,12 @@ static uint32_t obey_mark(struct obeying *o, const struct place *place,
     }
 }
 
+/* U7: "Some letters may be run only by a steward." */
+static bool is_kept_from(uint8_t role, const struct rec_book *book, size_t letter)
+{
+    return role == REC_CASHIER && book->marks[letter] == REC_STEWARD_LETTER;
+}
+
 static uint32_t obey_expression(struct obeying *o, const struct place *place,
                                 size_t first, bool *truth);
 
@@ -740,6 +747,8 @@ static uint32_t obey_call(struct obeying *o, uint8_t mark, bool *truth)
     uint32_t stop;
     if (!o->book->standing[letter])
         return REC_NO_TEXT;
+    if (is_kept_from(o->role, o->book, letter))
+        return REC_STEWARD_CALL;
     if (o->calls == REC_CALLS)
         return REC_DEEP_CALLS;
     o->steps++;
@@ -820,17 +829,20 @@ void rec_book_fresh(struct rec_book *book)
     memset(book, 0, sizeof *book);
 }
 
-uint32_t rec_book_define(struct rec_book *book, uint8_t letter,
+uint32_t rec_book_define(struct rec_book *book, uint8_t letter, uint8_t mark,
                          const uint8_t *text, size_t length)
 {
     struct rec_tree tree;
     uint32_t fault;
     if (!is_letter(letter))
         return REC_NO_SUCH_LETTER;
+    if (mark != REC_OPEN && mark != REC_STEWARD_LETTER)
+        return REC_BAD_MARK;
     fault = rec_read(text, length, &tree);
     if (fault)
         return fault;
     book->texts[letter - 'a'] = tree;
+    book->marks[letter - 'a'] = mark;
     book->standing[letter - 'a'] = true;
     return 0;
 }
@@ -842,16 +854,21 @@ uint32_t rec_book_withdraw(struct rec_book *book, uint8_t letter)
     if (!book->standing[letter - 'a'])
         return REC_NOT_STANDING;
     book->standing[letter - 'a'] = false;
+    book->marks[letter - 'a'] = REC_OPEN;
     return 0;
 }
 
-static uint32_t refuse_run(const struct rec_book *book, uint8_t letter,
+static uint32_t refuse_run(const struct rec_book *book, uint8_t letter, uint8_t role,
                            const struct rec_loan *loan)
 {
     if (!is_letter(letter))
         return REC_NO_SUCH_LETTER;
+    if (role != REC_CASHIER && role != REC_STEWARD)
+        return REC_BAD_MARK;
     if (!book->standing[letter - 'a'])
         return REC_NOT_STANDING;
+    if (is_kept_from(role, book, (size_t)(letter - 'a')))
+        return REC_NOT_FOR_CASHIERS;
     for (size_t i = 0; i < loan->input_length; i++)
         if (!in_values(loan->input[i]))
             return REC_BAD_INPUT;
@@ -860,14 +877,15 @@ static uint32_t refuse_run(const struct rec_book *book, uint8_t letter,
     return 0;
 }
 
-struct rec_answer rec_book_run(struct rec_book *book, uint8_t letter,
+struct rec_answer rec_book_run(struct rec_book *book, uint8_t letter, uint8_t role,
                                uint32_t allowance, const struct rec_loan *loan)
 {
     struct rec_answer answer = {0, 0, 0, 0, 0, 0, REC_SOUND};
-    struct obeying o = {.book = book, .loan = loan, .allowance = allowance};
+    struct obeying o = {
+        .book = book, .loan = loan, .role = role, .allowance = allowance};
     struct place place;
     bool truth = false;
-    answer.number = refuse_run(book, letter, loan);
+    answer.number = refuse_run(book, letter, role, loan);
     if (answer.number)
         return answer;
     place.letter = (size_t)(letter - 'a');
@@ -889,10 +907,15 @@ struct rec_answer rec_book_run(struct rec_book *book, uint8_t letter,
 
 /* ---- the store and its table machine ----------------------------------- */
 
-static bool store_is_bad(const size_t *used, const int32_t *variables)
+/* A cleared letter's mark counts too (U7). */
+static bool store_is_bad(const size_t *used, const uint8_t *marks,
+                         const int32_t *variables)
 {
     for (size_t i = 0; i < REC_LETTERS; i++)
         if (used[i] != 0 && (used[i] < 3 || used[i] > REC_CELLS))
+            return true;
+    for (size_t i = 0; i < REC_LETTERS; i++)
+        if (marks[i] > REC_STEWARD_LETTER)
             return true;
     for (size_t i = 0; i < REC_VARIABLES; i++)
         if (variables[i] < -REC_VALUE || variables[i] > REC_VALUE)
@@ -905,26 +928,29 @@ void rec_store_fresh(struct rec_store *store)
     memset(store, 0, sizeof *store);
 }
 
-uint32_t rec_store_define(struct rec_store *store, uint8_t letter,
+uint32_t rec_store_define(struct rec_store *store, uint8_t letter, uint8_t mark,
                           const uint8_t *text, size_t length)
 {
     struct rec_tree tree;
     uint32_t fault;
-    if (store_is_bad(store->used, store->variables))
+    if (store_is_bad(store->used, store->marks, store->variables))
         return REC_BAD_STORE;
     if (letter < 'a' || letter > 'z')
         return REC_NO_SUCH_LETTER;
+    if (mark > REC_STEWARD_LETTER)
+        return REC_BAD_MARK;
     fault = rec_read(text, length, &tree);
     if (fault)
         return fault;
     rec_table(&tree, store->cells + (size_t)(letter - 'a') * REC_CELLS);
     store->used[letter - 'a'] = tree.used;
+    store->marks[letter - 'a'] = mark;
     return 0;
 }
 
 uint32_t rec_store_withdraw(struct rec_store *store, uint8_t letter)
 {
-    if (store_is_bad(store->used, store->variables))
+    if (store_is_bad(store->used, store->marks, store->variables))
         return REC_BAD_STORE;
     if (letter < 'a' || letter > 'z')
         return REC_NO_SUCH_LETTER;
@@ -933,6 +959,7 @@ uint32_t rec_store_withdraw(struct rec_store *store, uint8_t letter)
     memset(store->cells + (size_t)(letter - 'a') * REC_CELLS, 0,
            REC_CELLS * sizeof store->cells[0]);
     store->used[letter - 'a'] = 0;
+    store->marks[letter - 'a'] = REC_OPEN;
     return 0;
 }
 
@@ -1065,6 +1092,7 @@ struct machine {
     const struct rec_loan *loan;
     uint32_t allowance;
     struct rec_answer answer;
+    bool barred[REC_LETTERS]; /* letters this run may not call (U7) */
     int32_t variables[REC_VARIABLES];
     int64_t counts[REC_LETTERS * REC_COUNTERS];
     struct frame stack[REC_CALLS + 1];
@@ -1158,6 +1186,8 @@ static uint32_t stop_of(const struct machine *m, const struct view *v, int64_t a
     if (code >= 'a' && code <= 'z') {
         if (m->used[code - 'a'] == 0)
             return REC_NO_TEXT;
+        if (m->barred[code - 'a'])
+            return REC_STEWARD_CALL;
         if (m->depth == REC_CALLS)
             return REC_DEEP_CALLS;
     }
@@ -1357,15 +1387,21 @@ static uint32_t advance(struct machine *m)
     return stop;
 }
 
-static uint32_t refuse_store_run(const size_t *used, const int32_t *variables,
-                                 uint8_t letter, const struct rec_loan *loan)
+/* A letter is barred to a role below its mark. */
+static uint32_t refuse_store_run(const size_t *used, const uint8_t *marks,
+                                 const int32_t *variables, uint8_t letter,
+                                 uint8_t role, const struct rec_loan *loan)
 {
-    if (store_is_bad(used, variables))
+    if (store_is_bad(used, marks, variables))
         return REC_BAD_STORE;
     if (letter < 'a' || letter > 'z')
         return REC_NO_SUCH_LETTER;
+    if (role > REC_STEWARD)
+        return REC_BAD_MARK;
     if (used[letter - 'a'] == 0)
         return REC_NOT_STANDING;
+    if (role < marks[letter - 'a'])
+        return REC_NOT_FOR_CASHIERS;
     for (size_t i = 0; i < loan->input_length; i++)
         if (loan->input[i] < -REC_VALUE || loan->input[i] > REC_VALUE)
             return REC_BAD_INPUT;
@@ -1373,18 +1409,21 @@ static uint32_t refuse_store_run(const size_t *used, const int32_t *variables,
 }
 
 struct rec_answer rec_store_run(const int32_t *cells, const size_t *used,
-                                int32_t *variables, uint8_t letter,
-                                uint32_t allowance, const struct rec_loan *loan)
+                                const uint8_t *marks, int32_t *variables,
+                                uint8_t letter, uint8_t role, uint32_t allowance,
+                                const struct rec_loan *loan)
 {
     struct machine m = {
         .cells = cells, .used = used, .loan = loan, .allowance = allowance};
-    uint32_t stop = refuse_store_run(used, variables, letter, loan);
+    uint32_t stop = refuse_store_run(used, marks, variables, letter, role, loan);
     if (stop) {
         m.answer.number = stop;
         return m.answer;
     }
     memset(loan->list, 0, REC_LIST * sizeof loan->list[0]);
     memcpy(m.variables, variables, sizeof m.variables);
+    for (size_t i = 0; i < REC_LETTERS; i++)
+        m.barred[i] = role < marks[i];
     m.stack[0].letter = (size_t)(letter - 'a');
     m.stack[0].at = 2;
     while (!stop && !m.over)
@@ -1442,7 +1481,7 @@ uint32_t rec_store_reach(const struct rec_store *store, uint8_t letter,
                          uint8_t reached[REC_LETTERS], uint8_t missing[REC_LETTERS])
 {
     bool calls[REC_LETTERS][REC_LETTERS] = {{false}};
-    if (store_is_bad(store->used, store->variables))
+    if (store_is_bad(store->used, store->marks, store->variables))
         return REC_BAD_STORE;
     if (letter < 'a' || letter > 'z')
         return REC_NO_SUCH_LETTER;

@@ -1,17 +1,20 @@
-/* An independent implementation of document 01 and of U1, U2, U4, U5 and U6 of
+/* An independent implementation of document 01 and of U1, U2, U4, U5, U6 and U7 of
  * document 02, to compare the engine with.
  *
  * rec_read         reads a text: accepts it, or gives its first fault's number
  * rec_table        lays the text out as a code table of 250 cells
  * rec_clean_print  writes the text's fair copy over the parsed tree (U1)
- * rec_book_*       the book: texts, obeyed by the nested meaning over the tree
- * rec_store_*      the store: code tables, obeyed cell by cell, damaged or not
+ * rec_book_*       the book: texts with their marks (U7), obeyed by the nested
+ *                  meaning over the tree
+ * rec_store_*      the store: code tables with their marks, obeyed cell by cell,
+ *                  damaged or not
  * rec_store_reach  which letters a letter may call, read from the tables (U2)
  * rec_win_dividend what a pool pays its winners, the dividend by search (U4)
  *
  * The two ways to run share no code beside the limits below: the book divides by
  * search, the store by C's quotient, set right where U5 goes lower; the book sets
- * U6's columns from the right, the store from the left. */
+ * U6's columns from the right, the store from the left; the book asks for mark and
+ * role at each call, the store draws up the letters that are barred to a run. */
 #ifndef REFERENCE_H
 #define REFERENCE_H
 
@@ -38,6 +41,10 @@ enum {
     REC_STAKES = 999999999,
     REC_DIVIDEND_STEP = 10  /* cents */
 };
+
+/* U7: the mark of a letter, and the role of who runs one. */
+enum { REC_OPEN = 0, REC_STEWARD_LETTER = 1 };
+enum { REC_CASHIER = 0, REC_STEWARD = 1 };
 
 enum rec_number {
     REC_FINISHED = 0,
@@ -68,7 +75,10 @@ enum rec_number {
     REC_SHORT_PAPER = 30, /* document 02, U1 */
     REC_BAD_POOL = 31,    /* document 02, U4 */
     REC_NO_WINNER = 32,
-    REC_NUMBERS = 33
+    REC_NOT_FOR_CASHIERS = 33, /* document 02, U7: a refusal */
+    REC_STEWARD_CALL = 34,     /* an ending */
+    REC_BAD_MARK = 35,         /* a refusal */
+    REC_NUMBERS = 36
 };
 
 /* The clauses of number 29, in the document's order. Only for statistics. */
@@ -157,6 +167,7 @@ struct rec_loan {
 
 struct rec_book {
     bool standing[REC_LETTERS];
+    uint8_t marks[REC_LETTERS]; /* open where no text stands */
     struct rec_tree texts[REC_LETTERS];
     int32_t variables[REC_VARIABLES];
 };
@@ -164,6 +175,7 @@ struct rec_book {
 struct rec_store {
     int32_t cells[REC_LETTERS * REC_CELLS];
     size_t used[REC_LETTERS];
+    uint8_t marks[REC_LETTERS];
     int32_t variables[REC_VARIABLES];
 };
 
@@ -186,26 +198,28 @@ uint32_t rec_clean_print(const uint8_t *text, size_t length, uint8_t *paper,
                          size_t room, size_t *written);
 
 void rec_book_fresh(struct rec_book *book);
-uint32_t rec_book_define(struct rec_book *book, uint8_t letter,
+uint32_t rec_book_define(struct rec_book *book, uint8_t letter, uint8_t mark,
                          const uint8_t *text, size_t length);
 uint32_t rec_book_withdraw(struct rec_book *book, uint8_t letter);
-struct rec_answer rec_book_run(struct rec_book *book, uint8_t letter,
+struct rec_answer rec_book_run(struct rec_book *book, uint8_t letter, uint8_t role,
                                uint32_t allowance, const struct rec_loan *loan);
 
 void rec_store_fresh(struct rec_store *store);
-uint32_t rec_store_define(struct rec_store *store, uint8_t letter,
+uint32_t rec_store_define(struct rec_store *store, uint8_t letter, uint8_t mark,
                           const uint8_t *text, size_t length);
 uint32_t rec_store_withdraw(struct rec_store *store, uint8_t letter);
 
-/* cells: 26 tables of 250, cell 1 of `a` first; used: 26; variables: 10,
+/* cells: 26 tables of 250, cell 1 of `a` first; used and marks: 26; variables: 10,
  * variable 1 first and variable 0 (digit cell 10) last. */
 struct rec_answer rec_store_run(const int32_t *cells, const size_t *used,
-                                int32_t *variables, uint8_t letter,
-                                uint32_t allowance, const struct rec_loan *loan);
+                                const uint8_t *marks, int32_t *variables,
+                                uint8_t letter, uint8_t role, uint32_t allowance,
+                                const struct rec_loan *loan);
 
 /* The first of 13, 1, 10 and 29 that fits, with both arrays as they were; else 0,
  * with 1 or 0 for each of `a` to `z`. 29 is a refusal here: some standing table,
- * reached or not, cannot be read mark after mark to its end. */
+ * reached or not, cannot be read mark after mark to its end. U7's marks count for 13
+ * alone. */
 uint32_t rec_store_reach(const struct rec_store *store, uint8_t letter,
                          uint8_t reached[REC_LETTERS], uint8_t missing[REC_LETTERS]);
 

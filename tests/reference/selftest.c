@@ -17,6 +17,9 @@
  *   against U5's sentence in 64 bits; none of these divides
  * - U6's columns against columns written by hand, against the plain digits cut before
  *   the cents, and read back; paper out in every room about them
+ * - U7's marks and roles against each sentence of U7 and every pair in its orders, and
+ *   against document 01 alone: to a steward all letters are open, to a cashier a steward
+ *   letter is as good as cleared; that its text is nothing to a cashier's run
  * - the nested meaning against the table machine on random histories
  * - all of these on all short texts over a small set of bytes
  *
@@ -44,6 +47,113 @@ static bool check(bool good, const char *what, const char *where)
     return good;
 }
 
+/* ---- the refusals of U7 in their order --------------------------------- */
+
+/* U7's once more, so that those of rec.h are tried too. */
+enum { OPEN = 0, FOR_STEWARDS = 1, CASHIER = 0, STEWARD = 1 };
+
+/* What calls with marks and roles must have met. */
+enum duty {
+    CASHIER_RAN, STEWARD_RAN_OPEN, STEWARD_RAN_STEWARD, CASHIER_NEXT, STEWARD_NEXT, STEWARD_WENT_ON,
+    STOP_AT_ONCE, STOP_NEXT, STOP_FAR, STOP_FARTHER, STOP_WITH_LIST, STOP_WITH_INPUT,
+    STOP_WITH_OUTPUT, NO_STOP, NO_TEXT_BEFORE_34, SPENT_BEFORE_34, STOP_BEFORE_28, MADE_OPEN,
+    MADE_STEWARD, STEWARD_AGAIN, REFUSED_OPEN, REFUSED_STEWARD, REFUSED_MARK, WITHDRAWN_STEWARD,
+    REPLACED_AND_33, REPLACED_AND_34, REPLACED_AND_FINISHED, STRANGE_OF_STANDING,
+    STRANGE_OF_CLEARED, STEWARD_OF_CLEARED, DUTIES
+};
+
+static const char *const duty_words[DUTIES] = {
+    "cashier's run", "steward's run of an open letter", "steward's run of a steward letter",
+    "cashier's run after a steward's", "steward's run after a cashier's",
+    "steward's run where a cashier's ends 34", "34 in the first mark",
+    "34 in a text that calls a steward letter", "34 two calls down or more",
+    "34 three calls down or more", "34 with values on the list", "34 with inputs taken",
+    "34 with output", "steward letter reached, cashier's run not ended 34", "27 before 34",
+    "20 before 34", "34 before 28", "steward letter made open", "open letter made steward",
+    "steward letter made steward again", "steward letter not made open by a refusal",
+    "open letter not made steward by a refusal", "standing letter and a bad mark",
+    "steward letter withdrawn", "33 whatever the steward texts", "34 whatever the steward texts",
+    "finished whatever the steward texts", "13 by the mark of a standing letter",
+    "13 by the mark of a cleared letter", "cleared letter marked as steward"};
+
+enum asked { TO_DEFINE, TO_WITHDRAW, TO_RUN, ASKED };
+
+static const char *const asked_words[ASKED] = {"define", "withdraw", "run"};
+
+enum { PLACES = 7 };
+
+/* The numbers of each call in their order, 0 after the last; 3 is for 3 to 9. */
+static const uint32_t call_orders[ASKED][PLACES + 1] = {
+    {13, 1, 35, 2, 3}, {13, 1, 10}, {13, 1, 35, 10, 33, 11, 12}};
+
+static unsigned long long duties[2][DUTIES], pairs_met[2][ASKED][PLACES][PLACES];
+
+static void on_duty(bool seen, enum duty duty)
+{
+    duties[in_histories][duty] += seen;
+}
+
+/* The first number that fits, or 0. It is counted, with each later one that fits too. */
+static uint32_t first_number(enum asked asked, const bool fits[PLACES])
+{
+    size_t first = 0;
+    while (call_orders[asked][first] != 0 && !fits[first])
+        first++;
+    for (size_t i = first; call_orders[asked][i] != 0; i++)
+        pairs_met[in_histories][asked][first][i] += fits[i];
+    return call_orders[asked][first];
+}
+
+static bool is_known(uint8_t letter)
+{
+    return letter >= 'a' && letter <= 'z';
+}
+
+static bool is_strange(uint8_t mark_or_role)
+{
+    return mark_or_role != 0 && mark_or_role != 1;
+}
+
+static uint32_t number_of_define(bool bad, uint8_t letter, uint8_t mark, const uint8_t *text,
+                                 size_t length)
+{
+    static struct rec_tree tree;
+    uint32_t fault = rec_read(text, length, &tree);
+    const bool fits[PLACES] = {bad, !is_known(letter), is_strange(mark), fault == 2, fault > 2};
+    uint32_t number = first_number(TO_DEFINE, fits);
+    return number == 3 ? fault : number;
+}
+
+static uint32_t number_of_withdraw(bool bad, uint8_t letter, bool standing)
+{
+    const bool fits[PLACES] = {bad, !is_known(letter), is_known(letter) && !standing};
+    return first_number(TO_WITHDRAW, fits);
+}
+
+static bool is_lawful(const struct rec_loan *loan)
+{
+    for (size_t i = 0; i < loan->input_length; i++)
+        if (loan->input[i] < -999999999 || loan->input[i] > 999999999)
+            return false;
+    return true;
+}
+
+/* The letter's standing and mark are looked at where there is such a letter. */
+static uint32_t number_of_run(bool bad, uint8_t letter, bool standing, uint8_t mark, uint8_t role,
+                              const struct rec_loan *loan)
+{
+    bool known = is_known(letter);
+    const bool fits[PLACES] = {bad, !known, is_strange(role), known && !standing,
+                               known && mark == FOR_STEWARDS && role == CASHIER,
+                               !is_lawful(loan), loan->list_length != 64};
+    return first_number(TO_RUN, fits);
+}
+
+static bool is_refusal(uint32_t number)
+{
+    return (number >= 1 && number <= 14) || number == 33 || number == 35;
+}
+
 /* ---- book and store side by side --------------------------------------- */
 
 enum { OUTPUT_ROOM = 5200, GUARD = 64 };
@@ -52,22 +162,56 @@ struct both {
     struct rec_book book;
     struct rec_store store;
     size_t lengths[REC_LETTERS]; /* of the standing texts */
+    uint8_t marks[REC_LETTERS];  /* as the accepted calls have left them */
+    uint8_t last;                /* role of the run before */
 };
 
 static void both_fresh(struct both *b)
 {
     rec_book_fresh(&b->book);
     rec_store_fresh(&b->store);
+    memset(b->marks, OPEN, sizeof b->marks);
+    b->last = CASHIER;
 }
 
+static void check_marks(const struct both *b, const char *what)
+{
+    check(memcmp(b->book.marks, b->marks, sizeof b->marks) == 0, "marks of the book", what);
+    check(memcmp(b->store.marks, b->marks, sizeof b->marks) == 0, "marks of the store", what);
+}
+
+static void duties_of_define(const struct both *b, uint8_t letter, uint8_t mark, uint32_t number)
+{
+    bool stood = is_known(letter) && b->book.standing[letter - 'a'];
+    bool was = stood && b->marks[letter - 'a'] == FOR_STEWARDS;
+    on_duty(was && mark == OPEN, number ? REFUSED_OPEN : MADE_OPEN);
+    on_duty(stood && !was && mark == FOR_STEWARDS, number ? REFUSED_STEWARD : MADE_STEWARD);
+    on_duty(was && mark == FOR_STEWARDS && number == 0, STEWARD_AGAIN);
+    on_duty(stood && is_strange(mark), REFUSED_MARK);
+}
+
+static uint32_t both_define_as(struct both *b, uint8_t letter, uint8_t mark, const void *text,
+                               size_t length)
+{
+    uint32_t due = number_of_define(false, letter, mark, text, length);
+    uint32_t one, two;
+    duties_of_define(b, letter, mark, due);
+    one = rec_book_define(&b->book, letter, mark, text, length);
+    two = rec_store_define(&b->store, letter, mark, text, length);
+    check(one == two, "define answers differ", "");
+    check(one == due, "number of a define", "");
+    if (due == 0) {
+        b->lengths[letter - 'a'] = length;
+        b->marks[letter - 'a'] = mark;
+    }
+    check_marks(b, "after a define");
+    return one;
+}
+
+/* Letters are open and runs are a cashier's where nothing else is said. */
 static uint32_t both_define(struct both *b, uint8_t letter, const void *text, size_t length)
 {
-    uint32_t one = rec_book_define(&b->book, letter, text, length);
-    uint32_t two = rec_store_define(&b->store, letter, text, length);
-    check(one == two, "define answers differ", "");
-    if (one == 0)
-        b->lengths[letter - 'a'] = length;
-    return one;
+    return both_define_as(b, letter, OPEN, text, length);
 }
 
 static uint32_t define_text(struct both *b, char letter, const char *text)
@@ -75,12 +219,38 @@ static uint32_t define_text(struct both *b, char letter, const char *text)
     return both_define(b, (uint8_t)letter, text, strlen(text));
 }
 
+static uint32_t define_steward(struct both *b, char letter, const char *text)
+{
+    return both_define_as(b, (uint8_t)letter, FOR_STEWARDS, text, strlen(text));
+}
+
 static uint32_t both_withdraw(struct both *b, uint8_t letter)
 {
+    bool standing = is_known(letter) && b->book.standing[letter - 'a'];
+    uint32_t due = number_of_withdraw(false, letter, standing);
     uint32_t one = rec_book_withdraw(&b->book, letter);
     uint32_t two = rec_store_withdraw(&b->store, letter);
     check(one == two, "withdraw answers differ", "");
+    check(one == due, "number of a withdraw", "");
+    if (due == 0) {
+        on_duty(b->marks[letter - 'a'] == FOR_STEWARDS, WITHDRAWN_STEWARD);
+        b->marks[letter - 'a'] = OPEN;
+    }
+    check_marks(b, "after a withdraw");
     return one;
+}
+
+static struct rec_answer store_run_as(struct rec_store *store, uint8_t letter, uint8_t role,
+                                      uint32_t allowance, const struct rec_loan *loan)
+{
+    return rec_store_run(store->cells, store->used, store->marks, store->variables, letter, role,
+                         allowance, loan);
+}
+
+static struct rec_answer store_run(struct rec_store *store, uint8_t letter, uint32_t allowance,
+                                   const struct rec_loan *loan)
+{
+    return store_run_as(store, letter, CASHIER, allowance, loan);
 }
 
 /* ---- two more accounts of reach ---------------------------------------- */
@@ -91,7 +261,8 @@ enum sight {
     STANDING_APART, CLEARED_APART, LETTER_IN_PRINT, LETTER_IN_COMMENT, CODE_IN_CONSTANT,
     CODE_IN_COUNTER, DAMAGE_IN_ITSELF, DAMAGE_REACHED, DAMAGE_APART, CHANGED_AND_SOUND,
     CELL_1_CHANGED, UNUSED_CHANGED, CLEARED_CHANGED, BAD_BEFORE_1, BAD_BEFORE_10, BAD_BEFORE_29,
-    LETTER_BEFORE_29, STANDING_BEFORE_29, RUN_ENDED_27, RUN_WITH_MISSING, RUN_NONE_MISSING, SIGHTS
+    LETTER_BEFORE_29, STANDING_BEFORE_29, MARK_OF_STANDING, MARK_OF_CLEARED, MARK_TURNED,
+    RUN_ENDED_27, RUN_WITH_MISSING, RUN_NONE_MISSING, SIGHTS
 };
 
 static const char *const sight_words[SIGHTS] = {
@@ -102,8 +273,10 @@ static const char *const sight_words[SIGHTS] = {
     "call's code as a counter's n only", "damage in its own table", "damage in a reached table",
     "damage in no reached table", "changed table read through", "cell 1 changed",
     "cells past the used ones changed", "cells of a cleared letter changed", "13 before 1",
-    "13 before 10", "13 before 29", "1 before 29", "10 before 29", "run ended 27",
-    "run not ended 27, a letter missing", "run, no letter missing"};
+    "13 before 10", "13 before 29", "1 before 29", "10 before 29",
+    "13 by the mark of a standing letter", "13 by the mark of a cleared letter",
+    "open mark made steward's, or back", "run ended 27", "run not ended 27, a letter missing",
+    "run, no letter missing"};
 
 /* Of 29, as enum rec_clause has them. */
 static const char *const clause_words[REC_CLAUSES] = {
@@ -129,6 +302,7 @@ struct ways {
     uint32_t clause;  /* of 29, of the first damaged table */
     uint32_t damaged; /* letters whose table cannot be read through */
     uint32_t standing;
+    uint32_t strange; /* letters whose mark is neither of the two (U7) */
     uint32_t calls[REC_LETTERS];
     uint32_t leads[REC_LETTERS]; /* by a chain of one call or more */
     /* of texts only, to see what is no call */
@@ -299,6 +473,9 @@ static void ways_of_tables(const struct rec_store *store, struct ways *w)
     memset(w, 0, sizeof *w);
     for (size_t i = 0; i < REC_VARIABLES; i++)
         w->bad |= judge_cell('v', store->variables[i], 0) != REC_SOUND;
+    for (size_t i = 0; i < REC_LETTERS; i++)
+        w->strange |= is_strange(store->marks[i]) ? bit(i) : 0;
+    w->bad |= w->strange != 0;
     for (size_t i = 0; i < REC_LETTERS; i++) {
         enum rec_clause clause;
         if (store->used[i] == 0)
@@ -329,6 +506,8 @@ static uint32_t number_of_reach(const struct ways *w, uint8_t letter)
     sighted(w->bad && w->damaged, BAD_BEFORE_29);
     sighted(!w->bad && !known && w->damaged, LETTER_BEFORE_29);
     sighted(!w->bad && known && !standing && w->damaged, STANDING_BEFORE_29);
+    sighted(w->strange & w->standing, MARK_OF_STANDING);
+    sighted(w->strange & ~w->standing, MARK_OF_CLEARED);
     if (!standing)
         number = REC_NOT_STANDING;
     if (!known)
@@ -442,17 +621,23 @@ static uint32_t compare_reach(const struct rec_store *store, const struct ways *
     return number;
 }
 
-/* What U2 says of a run on a store made by calls. */
-static void check_reach_of_run(const struct rec_store *store, uint8_t letter,
+/* What U2 says of a run on a store made by calls. 35 comes before the 10 that reach may
+ * have. Some standing letter that is reached must be a steward's for 34 (U7). */
+static void check_reach_of_run(const struct rec_store *store, uint8_t letter, uint8_t role,
                                const struct rec_answer *a)
 {
     struct marks marks = *soiled_marks();
     uint32_t number = rec_store_reach(store, letter, marks.reached, marks.missing);
     bool lacks = number == 0 && memchr(marks.missing, 1, REC_LETTERS) != NULL;
     bool refused = a->number == REC_NO_SUCH_LETTER || a->number == REC_NOT_STANDING;
-    bool ran = a->number == REC_FINISHED || a->number >= REC_SPENT;
-    check(number == (refused ? a->number : 0), "refusals of run and reach differ", "");
+    bool ran = !is_refusal(a->number), barred = false;
+    for (size_t i = 0; number == 0 && i < REC_LETTERS; i++)
+        barred |= marks.reached[i] && !marks.missing[i] && store->marks[i] == FOR_STEWARDS;
+    check(number == (refused ? a->number : 0) || a->number == 35,
+          "refusals of run and reach differ", "");
     check(a->number != REC_NO_TEXT || lacks, "run ended 27, no letter missing", "");
+    check(a->number != 34 || barred, "run ended 34, no steward letter reached", "");
+    on_duty(ran && role == CASHIER && barred && a->number != 34, NO_STOP);
     sighted(a->number == REC_NO_TEXT, RUN_ENDED_27);
     sighted(ran && a->number != REC_NO_TEXT && lacks, RUN_WITH_MISSING);
     sighted(ran && !lacks, RUN_NONE_MISSING);
@@ -468,10 +653,14 @@ struct paper {
 
 static void soil(struct paper *p)
 {
-    for (size_t i = 0; i < REC_LIST + GUARD; i++)
-        p->list[i] = (int32_t)(i * 2654435761u);
-    for (size_t i = 0; i < OUTPUT_ROOM + GUARD; i++)
-        p->output[i] = (uint8_t)(i * 37 + 11);
+    static struct paper soiled;
+    if (soiled.output[0] == 0) {
+        for (size_t i = 0; i < REC_LIST + GUARD; i++)
+            soiled.list[i] = (int32_t)(i * 2654435761u);
+        for (size_t i = 0; i < OUTPUT_ROOM + GUARD; i++)
+            soiled.output[i] = (uint8_t)(i * 37 + 11);
+    }
+    *p = soiled;
 }
 
 static bool same_answer(const struct rec_answer *a, const struct rec_answer *b)
@@ -486,9 +675,10 @@ static struct paper one_paper, two_paper, old_paper;
 static void check_frame(const struct rec_answer *a, uint32_t allowance,
                         const struct rec_loan *loan)
 {
-    bool refused = a->number >= 1 && a->number <= 14;
+    bool refused = is_refusal(a->number);
     size_t kept = refused ? 0 : REC_LIST;
-    check(a->number <= 28 && a->number != 13, "number on a sound store", "");
+    check((a->number <= 28 && a->number != 13) || (a->number >= 33 && a->number <= 35),
+          "number on a sound store", "");
     check(a->number == 0 || a->truth == 0, "truth of an unfinished run", "");
     check(a->steps <= allowance, "steps over the allowance", "");
     check(a->number != REC_SPENT || a->steps == allowance, "spent too early", "");
@@ -507,23 +697,168 @@ static void check_frame(const struct rec_answer *a, uint32_t allowance,
           "output past its length", "");
 }
 
-static struct rec_answer both_run(struct both *b, uint8_t letter, uint32_t allowance,
-                                  const int32_t *input, size_t input_length,
-                                  size_t list_length, size_t output_length)
+/* ---- U7 by document 01 alone ------------------------------------------- */
+
+static uint32_t steward_letters(const uint8_t *marks)
+{
+    uint32_t letters = 0;
+    for (size_t i = 0; i < REC_LETTERS; i++)
+        letters |= marks[i] == FOR_STEWARDS ? bit(i) : 0;
+    return letters;
+}
+
+static uint32_t cleared_letters(const struct rec_store *store)
+{
+    uint32_t letters = 0;
+    for (size_t i = 0; i < REC_LETTERS; i++)
+        letters |= store->used[i] == 0 ? bit(i) : 0;
+    return letters;
+}
+
+/* A run that came to no refusal. */
+struct duty_run {
+    const struct rec_store *store; /* as the run left it */
+    const int32_t *variables;      /* before the run */
+    uint8_t letter;
+    uint8_t role;
+    uint32_t allowance;
+    struct rec_loan loan;
+};
+
+static struct rec_store plain_store;
+static struct paper plain_paper;
+
+/* The run with all marks open, some letters cleared and some given the text `(;)`. */
+static struct rec_answer plain_run(const struct duty_run *d, uint32_t cleared, uint32_t filled,
+                                   uint32_t allowance)
+{
+    static const int32_t filling[] = {2000, 4, 0, 1};
+    struct rec_loan loan = d->loan;
+    plain_store = *d->store;
+    memcpy(plain_store.variables, d->variables, sizeof plain_store.variables);
+    for (size_t i = 0; i < REC_LETTERS; i++) {
+        plain_store.marks[i] = OPEN;
+        if (cleared & bit(i))
+            plain_store.used[i] = 0;
+        if (filled & bit(i)) {
+            memcpy(plain_store.cells + i * REC_CELLS, filling, sizeof filling);
+            plain_store.used[i] = 4;
+        }
+    }
+    plain_paper = old_paper;
+    loan.list = plain_paper.list;
+    loan.output = plain_paper.output;
+    return store_run(&plain_store, d->letter, allowance, &loan);
+}
+
+/* After steps that end 27 with the steward letters cleared: whether it is a call of one
+ * of `letters` that ends it, which goes on or is too deep where these have texts. */
+static bool calls_one_of(const struct duty_run *d, uint32_t letters, uint32_t steps)
+{
+    uint32_t stewards = steward_letters(d->store->marks);
+    struct rec_answer a = plain_run(d, stewards, letters, steps + 1);
+    return a.number != 27 || a.steps != steps;
+}
+
+/* 27 and 34 stop at the same mark where steward letters are cleared: it is 27 where the
+ * letter has no text. */
+static uint32_t number_at_call(const struct duty_run *d, uint32_t steps)
+{
+    uint32_t cleared = cleared_letters(d->store), stewards = steward_letters(d->store->marks);
+    if (!calls_one_of(d, cleared, steps))
+        return 34;
+    if (cleared & stewards)
+        on_duty(calls_one_of(d, cleared & stewards, steps), NO_TEXT_BEFORE_34);
+    return 27;
+}
+
+/* To a steward all letters are open. To a cashier steward letters are as good as cleared,
+ * and 34 is their 27. */
+static void check_role(const struct duty_run *d, const struct rec_answer *a,
+                       const struct paper *left)
+{
+    uint32_t stewards = steward_letters(d->store->marks);
+    bool cashier = d->role == CASHIER;
+    struct rec_answer due = plain_run(d, cashier ? stewards : 0, 0, d->allowance);
+    check(memcmp(&plain_paper, left, sizeof *left) == 0, "lent places by the role", "");
+    check(memcmp(plain_store.variables, d->store->variables, sizeof plain_store.variables) == 0,
+          "variables by the role", "");
+    if (cashier && due.number == 27)
+        due.number = number_at_call(d, due.steps);
+    check(same_answer(a, &due), "answer by the role", "");
+    if (a->number == 34) {
+        struct rec_answer open = plain_run(d, 0, 0, a->steps + 1);
+        on_duty(open.number == 28 && open.steps == a->steps, STOP_BEFORE_28);
+    }
+    if (!cashier && !(stewards & bit((size_t)(d->letter - 'a')))) {
+        struct rec_answer barred = plain_run(d, stewards, 0, d->allowance);
+        on_duty(barred.number == 27 && (a->number != 27 || a->steps != barred.steps),
+                STEWARD_WENT_ON);
+    }
+}
+
+/* Where the calls of the texts lead before a steward letter comes. */
+static void duties_of_stop(const struct both *b, uint8_t letter, const struct rec_answer *a)
+{
+    uint32_t stewards = steward_letters(b->marks), next, after = 0;
+    struct ways w;
+    ways_of_texts(b, &w);
+    next = w.calls[letter - 'a'];
+    for (size_t i = 0; i < REC_LETTERS; i++)
+        if (next & ~stewards & bit(i))
+            after |= w.calls[i];
+    on_duty(a->steps == 0, STOP_AT_ONCE);
+    on_duty(next & stewards, STOP_NEXT);
+    on_duty(!(next & stewards), STOP_FAR);
+    on_duty(!((next | after) & stewards), STOP_FARTHER);
+    on_duty(a->height > 0, STOP_WITH_LIST);
+    on_duty(a->taken > 0, STOP_WITH_INPUT);
+    on_duty(a->written > 0, STOP_WITH_OUTPUT);
+}
+
+static void duties_of_run(struct both *b, uint8_t letter, uint8_t role,
+                          const struct rec_answer *a)
+{
+    if (is_refusal(a->number))
+        return;
+    on_duty(role == CASHIER, CASHIER_RAN);
+    on_duty(role == STEWARD, b->marks[letter - 'a'] ? STEWARD_RAN_STEWARD : STEWARD_RAN_OPEN);
+    on_duty(role != b->last, role == CASHIER ? CASHIER_NEXT : STEWARD_NEXT);
+    b->last = role;
+    if (a->number == 34)
+        duties_of_stop(b, letter, a);
+}
+
+/* ---- runs of both ------------------------------------------------------ */
+
+/* A refusal comes exactly where one fits. */
+static void check_refusal(const struct both *b, uint8_t letter, uint8_t role,
+                          const struct rec_loan *loan, uint32_t number)
+{
+    bool standing = is_known(letter) && b->book.standing[letter - 'a'];
+    uint8_t mark = is_known(letter) ? b->marks[letter - 'a'] : OPEN;
+    uint32_t due = number_of_run(false, letter, standing, mark, role, loan);
+    check(due == (is_refusal(number) ? number : 0), "refusal of a run", "");
+}
+
+static struct rec_answer both_run_as(struct both *b, uint8_t letter, uint8_t role,
+                                     uint32_t allowance, const int32_t *input,
+                                     size_t input_length, size_t list_length,
+                                     size_t output_length)
 {
     struct rec_loan first = {input, input_length, one_paper.list, list_length,
                              one_paper.output, output_length};
     struct rec_loan second = first;
     struct rec_answer one, two;
     int32_t variables[REC_VARIABLES];
+    const struct duty_run d = {&b->store, variables, letter, role, allowance, first};
     second.list = two_paper.list;
     second.output = two_paper.output;
     soil(&one_paper);
     two_paper = old_paper = one_paper;
     memcpy(variables, b->book.variables, sizeof variables);
-    one = rec_book_run(&b->book, letter, allowance, &first);
-    two = rec_store_run(b->store.cells, b->store.used, b->store.variables, letter,
-                        allowance, &second);
+    one = rec_book_run(&b->book, letter, role, allowance, &first);
+    two = store_run_as(&b->store, letter, role, allowance, &second);
     check(same_answer(&one, &two), "run answers differ", "");
     check(memcmp(&one_paper, &two_paper, sizeof one_paper) == 0, "lent places differ", "");
     check(memcmp(b->book.variables, b->store.variables, sizeof variables) == 0,
@@ -532,8 +867,110 @@ static struct rec_answer both_run(struct both *b, uint8_t letter, uint32_t allow
         check(memcmp(b->book.variables, variables, sizeof variables) == 0,
               "variables of an unfinished run", "");
     check_frame(&one, allowance, &first);
-    check_reach_of_run(&b->store, letter, &one);
+    check_refusal(b, letter, role, &first, one.number);
+    check_marks(b, "after a run");
+    check_reach_of_run(&b->store, letter, role, &one);
+    if (!is_refusal(one.number) && (role == STEWARD || steward_letters(b->marks)))
+        check_role(&d, &one, &one_paper);
+    duties_of_run(b, letter, role, &one);
     return one;
+}
+
+static struct rec_answer both_run(struct both *b, uint8_t letter, uint32_t allowance,
+                                  const int32_t *input, size_t input_length,
+                                  size_t list_length, size_t output_length)
+{
+    return both_run_as(b, letter, CASHIER, allowance, input, input_length, list_length,
+                       output_length);
+}
+
+/* ---- U7 on a store alone, sound or not --------------------------------- */
+
+/* Number 13. */
+static bool is_bad(const struct rec_store *store)
+{
+    bool bad = false;
+    for (size_t i = 0; i < REC_LETTERS; i++) {
+        size_t used = store->used[i];
+        bad |= used == 1 || used == 2 || used > 250 || is_strange(store->marks[i]);
+        on_duty(is_strange(store->marks[i]), used ? STRANGE_OF_STANDING : STRANGE_OF_CLEARED);
+        on_duty(used == 0 && store->marks[i] == FOR_STEWARDS, STEWARD_OF_CLEARED);
+    }
+    for (size_t i = 0; i < REC_VARIABLES; i++)
+        bad |= store->variables[i] < -999999999 || store->variables[i] > 999999999;
+    return bad;
+}
+
+static struct rec_store old_store;
+
+static void check_kept(const struct rec_store *store, const char *what)
+{
+    check(memcmp(&old_store, store, sizeof old_store) == 0, "store as it was", what);
+}
+
+/* An accepted call changes one mark at most. */
+static void check_one_mark(const struct rec_store *store, uint8_t letter, uint8_t mark)
+{
+    for (size_t i = 0; i < REC_LETTERS; i++) {
+        uint8_t due = i == (size_t)(letter - 'a') ? mark : old_store.marks[i];
+        check(store->marks[i] == due, "mark after a call", "");
+    }
+}
+
+static uint32_t lone_define(struct rec_store *store, uint8_t letter, uint8_t mark,
+                            const uint8_t *text, size_t length)
+{
+    uint32_t due = number_of_define(is_bad(store), letter, mark, text, length);
+    uint32_t number;
+    memcpy(&old_store, store, sizeof old_store);
+    number = rec_store_define(store, letter, mark, text, length);
+    check(number == due, "define of a lone store", "");
+    if (due != 0)
+        check_kept(store, "define");
+    else
+        check_one_mark(store, letter, mark);
+    return number;
+}
+
+static uint32_t lone_withdraw(struct rec_store *store, uint8_t letter)
+{
+    bool standing = is_known(letter) && store->used[letter - 'a'] != 0;
+    uint32_t due = number_of_withdraw(is_bad(store), letter, standing);
+    uint32_t number;
+    memcpy(&old_store, store, sizeof old_store);
+    number = rec_store_withdraw(store, letter);
+    check(number == due, "withdraw of a lone store", "");
+    if (due != 0)
+        check_kept(store, "withdraw");
+    else
+        check_one_mark(store, letter, OPEN);
+    return number;
+}
+
+static struct rec_answer lone_run(struct rec_store *store, uint8_t letter, uint8_t role,
+                                  uint32_t allowance, const int32_t *input, size_t input_length,
+                                  size_t list_length, size_t output_length)
+{
+    struct rec_loan loan = {input, input_length, one_paper.list, list_length, one_paper.output,
+                            output_length};
+    const struct duty_run d = {store, old_store.variables, letter, role, allowance, loan};
+    bool standing = is_known(letter) && store->used[letter - 'a'] != 0;
+    uint8_t mark = is_known(letter) ? store->marks[letter - 'a'] : OPEN;
+    uint32_t due = number_of_run(is_bad(store), letter, standing, mark, role, &loan);
+    struct rec_answer a;
+    soil(&one_paper);
+    old_paper = one_paper;
+    memcpy(&old_store, store, sizeof old_store);
+    a = store_run_as(store, letter, role, allowance, &loan);
+    check(due == (is_refusal(a.number) ? a.number : 0), "refusal of a lone store", "");
+    if (a.number != 0)
+        check_kept(store, "run");
+    if (is_refusal(a.number))
+        check(memcmp(&one_paper, &old_paper, sizeof one_paper) == 0 && !a.truth && !a.steps
+                  && !a.height && !a.taken && !a.written, "refused run of a lone store", "");
+    else if (due == 0)
+        check_role(&d, &a, &one_paper);
+    return a;
 }
 
 /* ---- a second reader --------------------------------------------------- */
@@ -1111,19 +1548,26 @@ static size_t read_inputs(const char *inputs, int32_t input[REC_LIST])
     return count;
 }
 
-/* Runs letter `q`; top is looked at when the height is not 0. */
-static void expect_run(struct both *b, char letter, uint32_t allowance, const char *inputs,
-                       uint32_t number, bool truth, uint32_t steps, uint32_t height,
-                       int32_t top, const char *what)
+/* Top is looked at when the height is not 0. */
+static void expect_run_as(struct both *b, char letter, uint8_t role, uint32_t allowance,
+                          const char *inputs, uint32_t number, bool truth, uint32_t steps,
+                          uint32_t height, int32_t top, const char *what)
 {
     int32_t input[REC_LIST];
     size_t count = read_inputs(inputs, input);
     struct rec_answer a;
-    a = both_run(b, (uint8_t)letter, allowance, input, count, REC_LIST, 4096);
+    a = both_run_as(b, (uint8_t)letter, role, allowance, input, count, REC_LIST, 4096);
     check(a.number == number && a.truth == truth && a.steps == steps && a.height == height,
           "answer of a run", what);
     if (height > 0)
         check(one_paper.list[height - 1] == top, "top of a run", what);
+}
+
+static void expect_run(struct both *b, char letter, uint32_t allowance, const char *inputs,
+                       uint32_t number, bool truth, uint32_t steps, uint32_t height,
+                       int32_t top, const char *what)
+{
+    expect_run_as(b, letter, CASHIER, allowance, inputs, number, truth, steps, height, top, what);
 }
 
 static void expect_text(const char *text, uint32_t allowance, uint32_t number, bool truth,
@@ -1471,7 +1915,7 @@ static void expect_damage(const char *cells, size_t used, uint32_t allowance,
     rec_store_fresh(&store);
     put_cells(store.cells, cells);
     store.used[0] = used;
-    a = rec_store_run(store.cells, store.used, store.variables, 'a', allowance, &loan);
+    a = store_run(&store, 'a', allowance, &loan);
     check(a.number == number && a.steps == steps && a.clause == clause, "damaged", cells);
 }
 
@@ -1542,39 +1986,32 @@ static void refusals_by_hand(void)
     for (size_t i = 0; i < 5; i++) {
         uint32_t number = i < 2 ? REC_NOT_STANDING : REC_BAD_STORE;
         store.variables[9] = values[i];
-        check(rec_store_run(store.cells, store.used, store.variables, 'a', 9, &loan).number
-                  == number, "variable", "run");
+        check(store_run(&store, 'a', 9, &loan).number == number, "variable", "run");
         check(rec_store_withdraw(&store, 'a') == number, "variable", "withdraw");
-        check(rec_store_define(&store, 'b', (const uint8_t *)"(", 1)
+        check(rec_store_define(&store, 'b', OPEN, (const uint8_t *)"(", 1)
                   == (i < 2 ? REC_UNFINISHED : REC_BAD_STORE), "variable", "define");
     }
-    check(rec_store_run(store.cells, store.used, store.variables, 'A', 9, &loan).number
-              == REC_BAD_STORE, "13 before 1", "");
+    check(store_run(&store, 'A', 9, &loan).number == REC_BAD_STORE, "13 before 1", "");
     store.variables[9] = 0;
     loan.list_length = REC_LIST + 1;
     loan.input_length = 3;
-    check(rec_store_run(store.cells, store.used, store.variables, 'A', 9, &loan).number
-              == REC_NO_SUCH_LETTER, "1 before 10", "");
-    check(rec_store_run(store.cells, store.used, store.variables, 'z', 9, &loan).number
-              == REC_NOT_STANDING, "10 before 11", "");
-    rec_store_define(&store, 'z', (const uint8_t *)"('/7'S1XX;)", 11);
-    check(rec_store_run(store.cells, store.used, store.variables, 'z', 9, &loan).number
-              == REC_BAD_INPUT, "11 before 12", "");
+    check(store_run(&store, 'A', 9, &loan).number == REC_NO_SUCH_LETTER, "1 before 10", "");
+    check(store_run(&store, 'z', 9, &loan).number == REC_NOT_STANDING, "10 before 11", "");
+    rec_store_define(&store, 'z', OPEN, (const uint8_t *)"('/7'S1XX;)", 11);
+    check(store_run(&store, 'z', 9, &loan).number == REC_BAD_INPUT, "11 before 12", "");
     loan.input = input + 1;
     loan.input_length = 1;
-    check(rec_store_run(store.cells, store.used, store.variables, 'z', 9, &loan).number
-              == REC_BAD_LIST, "12", "");
+    check(store_run(&store, 'z', 9, &loan).number == REC_BAD_LIST, "12", "");
     loan.input = input + 3;
     loan.list_length = REC_LIST;
-    check(rec_store_run(store.cells, store.used, store.variables, 'z', 9, &loan).number
-              == REC_BAD_INPUT, "11 below", "");
+    check(store_run(&store, 'z', 9, &loan).number == REC_BAD_INPUT, "11 below", "");
     loan.input_length = 0;
     store.cells[25 * REC_CELLS + 6] = -66; /* the second X */
-    check(rec_store_run(store.cells, store.used, store.variables, 'z', 9, &loan).number
-              == REC_DAMAGED && store.variables[0] == 0, "variables of a damaged run", "");
+    check(store_run(&store, 'z', 9, &loan).number == REC_DAMAGED && store.variables[0] == 0,
+          "variables of a damaged run", "");
     store.cells[25 * REC_CELLS + 6] = -88;
-    check(rec_store_run(store.cells, store.used, store.variables, 'z', 9, &loan).number
-              == REC_FINISHED && store.variables[0] == 7, "variables of a finished run", "");
+    check(store_run(&store, 'z', 9, &loan).number == REC_FINISHED && store.variables[0] == 7,
+          "variables of a finished run", "");
 }
 
 /* ---- reach by hand ----------------------------------------------------- */
@@ -1717,8 +2154,8 @@ static void expect_reading(const char *cells, size_t used, uint32_t clause)
     static struct rec_store store;
     struct ways w;
     rec_store_fresh(&store);
-    rec_store_define(&store, 'b', (const uint8_t *)"(b;x)", 5);
-    rec_store_define(&store, 'c', (const uint8_t *)"(y;d)", 5);
+    rec_store_define(&store, 'b', OPEN, (const uint8_t *)"(b;x)", 5);
+    rec_store_define(&store, 'c', OPEN, (const uint8_t *)"(y;d)", 5);
     put_cells(store.cells + 3 * REC_CELLS, cells);
     store.used[3] = used;
     ways_of_tables(&store, &w);
@@ -1854,10 +2291,11 @@ static void expect_bad_store(const struct rec_store *store, const char *what)
     expect_number(store, 'A', REC_BAD_STORE, what);
 }
 
-/* `a` stands. Used counts and variables in turn, then all other letters. */
+/* `a` stands. Used counts, marks and variables in turn, then all other letters. */
 static void refusals_of_reach(void)
 {
     static const size_t used[] = {1, 2, 251, 65536 + 3, SIZE_MAX};
+    static const uint8_t marks[] = {2, 3, 128, 254, 255};
     static const int32_t values[] = {REC_VALUE + 1, -REC_VALUE - 1, INT32_MAX, INT32_MIN};
     static struct both b;
     both_fresh(&b);
@@ -1868,6 +2306,12 @@ static void refusals_of_reach(void)
             b.store.used[i] = used[j];
             expect_bad_store(&b.store, "used count");
             b.store.used[i] = kept;
+            b.store.marks[i] = marks[j];
+            expect_bad_store(&b.store, "mark");
+            b.store.marks[i] = FOR_STEWARDS;
+            expect_reach(&b, 'a', "az", "z");
+            b.store.marks[i] = OPEN;
+            sighted(true, MARK_TURNED);
         }
     for (size_t i = 0; i < REC_VARIABLES; i++) {
         for (size_t j = 0; j < 4; j++) {
@@ -1915,8 +2359,7 @@ static void reach_of_hidden_call(void)
     rec_store_fresh(&store);
     put_cells(store.cells, "2000,4,-175,-119,7,0,1");
     store.used[0] = 7;
-    check(rec_store_run(store.cells, store.used, store.variables, 'a', 9, &loan).number
-              == REC_NO_TEXT, "run of a hidden call", "");
+    check(store_run(&store, 'a', 9, &loan).number == REC_NO_TEXT, "run of a hidden call", "");
     check(rec_store_reach(&store, 'a', marks.reached, marks.missing) == 0
               && marks.reached[0] == 1 && marks.reached['w' - 'a'] == 0
               && memchr(marks.missing, 1, REC_LETTERS) == NULL, "reach of a hidden call", "");
@@ -2845,12 +3288,12 @@ static void columns_of_stores(void)
     rec_store_fresh(&store);
     put_cells(store.cells, "2000,-73,-79,-66,0,1");
     store.used[0] = 6;
-    a = rec_store_run(store.cells, store.used, store.variables, 'a', 9, &loan);
+    a = store_run(&store, 'a', 9, &loan);
     check(a.number == REC_DAMAGED && a.steps == 2 && a.height == 1 && a.written == WIDTH
               && memcmp(output, written, sizeof output) == 0, "column before damage", "");
     memcpy(output, soiled, sizeof output);
     store.variables[0] = MOST_VALUE + 1;
-    a = rec_store_run(store.cells, store.used, store.variables, 'a', 9, &loan);
+    a = store_run(&store, 'a', 9, &loan);
     check(a.number == REC_BAD_STORE && a.written == 0
               && memcmp(output, soiled, sizeof output) == 0, "refused column", "");
 }
@@ -2948,6 +3391,631 @@ static void columns_by_hand(void)
     large_columns();
 }
 
+/* ---- marks and roles by hand ------------------------------------------- */
+
+static bool same_book_and_store(const struct both *a, const struct both *b)
+{
+    return memcmp(&a->book, &b->book, sizeof a->book) == 0
+        && memcmp(&a->store, &b->store, sizeof a->store) == 0;
+}
+
+/* A refusal leaves all as it was, byte for byte. */
+static void expect_define(struct both *b, uint8_t letter, uint8_t mark, const char *text,
+                          uint32_t number)
+{
+    static struct both kept;
+    memcpy(&kept, b, sizeof kept);
+    check(both_define_as(b, letter, mark, text, strlen(text)) == number, "define by mark", text);
+    check(number == 0 || same_book_and_store(&kept, b), "refused define", text);
+}
+
+static void expect_withdraw(struct both *b, uint8_t letter, uint32_t number)
+{
+    static struct both kept;
+    memcpy(&kept, b, sizeof kept);
+    check(both_withdraw(b, letter) == number, "withdraw by mark", "");
+    check(number == 0 || same_book_and_store(&kept, b), "refused withdraw", "");
+}
+
+/* One input, so many list places. */
+static void expect_refusal(struct both *b, uint8_t letter, uint8_t role, int32_t input,
+                           size_t list_length, uint32_t number, const char *what)
+{
+    static struct both kept;
+    memcpy(&kept, b, sizeof kept);
+    check(both_run_as(b, letter, role, 9, &input, 1, list_length, 20).number == number,
+          "refused run", what);
+    check(same_book_and_store(&kept, b), "book and store of a refused run", what);
+    check(memcmp(&one_paper, &old_paper, sizeof one_paper) == 0, "places of a refused run", what);
+}
+
+/* The steward letters, looked at in book and store. */
+static void expect_marks(const struct both *b, const char *stewards, const char *what)
+{
+    for (int i = 0; i < REC_LETTERS; i++) {
+        uint8_t mark = strchr(stewards, 'a' + i) != NULL;
+        check(b->book.marks[i] == mark, "mark of the book", what);
+        check(b->store.marks[i] == mark, "mark of the store", what);
+    }
+}
+
+/* Cashier, steward and cashier again: the role before is nothing to a run. */
+static void expect_runs(struct both *b, char letter, uint32_t cashiers, uint32_t stewards,
+                        const char *what)
+{
+    const uint32_t numbers[] = {cashiers, stewards, cashiers};
+    for (size_t i = 0; i < 3; i++) {
+        uint8_t role = i == 1 ? STEWARD : CASHIER;
+        struct rec_answer a = both_run_as(b, (uint8_t)letter, role, 1000, NULL, 0, REC_LIST, 100);
+        check(a.number == numbers[i], "number by role", what);
+    }
+}
+
+/* "Each letter's entry in the store gains a mark, set by define ...; a fresh store's marks
+ * are open. Withdraw clears the mark to open." */
+static void marks_of_calls(void)
+{
+    static struct both b;
+    memset(&b, 255, sizeof b);
+    both_fresh(&b);
+    expect_marks(&b, "", "fresh");
+    expect_define(&b, 'q', FOR_STEWARDS, "(;)", 0);
+    expect_marks(&b, "q", "defined");
+    expect_runs(&b, 'q', 33, 0, "steward letter");
+    expect_define(&b, 'q', OPEN, "(;)", 0);
+    expect_marks(&b, "", "made open");
+    expect_runs(&b, 'q', 0, 0, "open letter");
+    expect_define(&b, 'q', FOR_STEWARDS, "(;)", 0);
+    expect_marks(&b, "q", "made a steward's");
+    expect_runs(&b, 'q', 33, 0, "steward letter, open before");
+    expect_define(&b, 'q', FOR_STEWARDS, "('/5'N)", 0);
+    expect_marks(&b, "q", "a steward's again");
+    expect_run_as(&b, 'q', STEWARD, 9, "", 0, true, 2, 1, 5, "text of the last define");
+    /* refused */
+    expect_define(&b, 'q', OPEN, "(", 7);
+    expect_define(&b, 'q', OPEN, "", 7);
+    expect_define(&b, 'q', OPEN, "($0$)", 5);
+    expect_define(&b, 'q', 2, "(;)", 35);
+    expect_define(&b, 'q', 255, "(;)", 35);
+    expect_define(&b, 'Q', OPEN, "(;)", 1);
+    expect_withdraw(&b, 'Q', 1);
+    expect_withdraw(&b, 'p', 10);
+    expect_marks(&b, "q", "refused as open");
+    expect_runs(&b, 'q', 33, 0, "refused as open");
+    expect_run_as(&b, 'q', STEWARD, 9, "", 0, true, 2, 1, 5, "text before the refused");
+    expect_withdraw(&b, 'q', 0);
+    expect_marks(&b, "", "withdrawn");
+    expect_runs(&b, 'q', 10, 10, "withdrawn");
+    expect_withdraw(&b, 'q', 10);
+    expect_define(&b, 'q', FOR_STEWARDS, "(", 7);
+    expect_marks(&b, "", "cleared letter, refused");
+    expect_define(&b, 'q', OPEN, "(;)", 0);
+    expect_marks(&b, "", "open after a withdraw");
+    expect_runs(&b, 'q', 0, 0, "open after a withdraw");
+    expect_define(&b, 'q', FOR_STEWARDS, "#", 3);
+    expect_define(&b, 'q', 2, "(;)", 35);
+    expect_marks(&b, "", "refused as a steward's");
+    expect_runs(&b, 'q', 0, 0, "refused as a steward's");
+}
+
+/* Each letter has a mark of its own. */
+static void marks_of_all_letters(void)
+{
+    static struct both b;
+    char stewards[REC_LETTERS + 1] = "";
+    both_fresh(&b);
+    for (int i = 0; i < REC_LETTERS; i++) {
+        define_steward(&b, (char)('a' + i), "(;)");
+        stewards[i] = (char)('a' + i);
+        expect_marks(&b, stewards, "steward after steward");
+    }
+    for (char letter = 'a'; letter <= 'z'; letter++)
+        expect_runs(&b, letter, 33, 0, "all steward's");
+    for (int i = 0; i < REC_LETTERS; i++) {
+        char letter = (char)('a' + i);
+        if (i % 3 == 0)
+            both_withdraw(&b, (uint8_t)letter);
+        else if (i % 3 == 1)
+            define_text(&b, letter, "()");
+        else
+            define_steward(&b, letter, "()");
+        stewards[i] = i % 3 == 2 ? letter : '!';
+        expect_marks(&b, stewards, "one after the other");
+        expect_runs(&b, letter, i % 3 == 0 ? 10 : i % 3 == 1 ? 0 : 33, i % 3 == 0 ? 10 : 0,
+                    "one after the other");
+    }
+}
+
+/* "35 bad mark, a mark or role neither of the two": all of them. `o` is open, `s` a
+ * steward's, `c` cleared. */
+static void strange_marks_and_roles(void)
+{
+    static struct both b, kept;
+    both_fresh(&b);
+    define_text(&b, 'o', "(s;)");
+    define_steward(&b, 's', "(o;)");
+    memcpy(&kept, &b, sizeof kept);
+    for (int strange = 2; strange < 256; strange++)
+        for (size_t i = 0; i < 3; i++) {
+            uint8_t letter = (uint8_t)"osc"[i];
+            check(both_define_as(&b, letter, (uint8_t)strange, "(;)", 3) == 35, "bad mark", "");
+            check(both_run_as(&b, letter, (uint8_t)strange, 9, NULL, 0, REC_LIST, 9).number == 35,
+                  "bad role", "");
+        }
+    check(same_book_and_store(&kept, &b), "book and store after 35", "");
+    for (uint8_t known = 0; known < 2; known++)
+        check(both_define_as(&b, 'c', known, "(;)", 3) == 0, "mark of the two", "");
+}
+
+/* 1, 35, then 2 and the text. */
+static void order_of_define(void)
+{
+    static const char *const faults[] = {"#", "(((((((((((", "($0$)", "('/x')", "(",
+                                         "($1$$1$$1$$1$$1$$1$$1$$1$$1$$1$$1$$1$$1$$1$$1$$1$$1$)"};
+    static const uint8_t strange[] = {2, 255};
+    static struct both b;
+    struct text longer, full;
+    text_clear(&longer);
+    text_fill(&longer, "#", 257);
+    text_clear(&full);
+    text_add(&full, "(");
+    text_fill(&full, "N", 124);
+    text_add(&full, ")");
+    longer.bytes[257] = full.bytes[full.length] = 0;
+    both_fresh(&b);
+    define_steward(&b, 's', "(;)");
+    define_text(&b, 'o', "(;)");
+    for (size_t i = 0; i < 2; i++) {
+        for (const char *letter = "osc"; *letter; letter++) {
+            expect_define(&b, (uint8_t)*letter, strange[i], (const char *)longer.bytes, 35);
+            expect_define(&b, (uint8_t)*letter, strange[i], (const char *)full.bytes, 35);
+            for (size_t j = 0; j < sizeof faults / sizeof faults[0]; j++)
+                expect_define(&b, (uint8_t)*letter, strange[i], faults[j], 35);
+        }
+        for (const char *letter = "A`{ "; *letter; letter++) {
+            expect_define(&b, (uint8_t)*letter, strange[i], "(;)", 1);
+            expect_define(&b, (uint8_t)*letter, strange[i], "#", 1);
+            expect_define(&b, (uint8_t)*letter, strange[i], (const char *)longer.bytes, 1);
+        }
+    }
+    for (uint8_t mark = 0; mark < 2; mark++) {
+        expect_define(&b, 'A', mark, "#", 1);
+        expect_define(&b, 'A', mark, (const char *)longer.bytes, 1);
+        expect_define(&b, 's', mark, (const char *)longer.bytes, 2);
+        expect_define(&b, 'o', mark, (const char *)longer.bytes, 2);
+        expect_define(&b, 's', mark, (const char *)full.bytes, 8);
+        expect_define(&b, 'o', mark, "#", 3);
+    }
+    expect_marks(&b, "s", "refused defines");
+}
+
+/* 1, 35, 10, 33, 11, 12. */
+static void order_of_runs(void)
+{
+    static const uint8_t strange[] = {2, 255};
+    static const size_t lengths[] = {0, 63, 65};
+    const int32_t bad = REC_VALUE + 1;
+    static struct both b;
+    both_fresh(&b);
+    define_steward(&b, 's', "(;)");
+    define_text(&b, 'o', "(;)");
+    for (size_t i = 0; i < 2; i++) {
+        expect_refusal(&b, 'A', strange[i], 0, REC_LIST, 1, "1 before 35");
+        for (const char *letter = "osc"; *letter; letter++) {
+            expect_refusal(&b, (uint8_t)*letter, strange[i], 0, REC_LIST, 35, "35");
+            expect_refusal(&b, (uint8_t)*letter, strange[i], bad, REC_LIST, 35, "35 before 11");
+            expect_refusal(&b, (uint8_t)*letter, strange[i], 0, 63, 35, "35 before 12");
+        }
+    }
+    for (uint8_t role = 0; role < 2; role++) {
+        expect_refusal(&b, 'A', role, bad, 65, 1, "1 before all but 13");
+        expect_refusal(&b, 'c', role, 0, REC_LIST, 10, "10");
+        expect_refusal(&b, 'c', role, bad, REC_LIST, 10, "10 before 11");
+        expect_refusal(&b, 'c', role, 0, 65, 10, "10 before 12");
+        expect_refusal(&b, 'o', role, bad, 65, 11, "11 before 12");
+    }
+    for (size_t i = 0; i < 3; i++) {
+        expect_refusal(&b, 's', CASHIER, 0, lengths[i], 33, "33 before 12");
+        expect_refusal(&b, 's', CASHIER, -bad, lengths[i], 33, "33 before 11 and 12");
+        expect_refusal(&b, 's', STEWARD, 0, lengths[i], 12, "12 to a steward");
+    }
+    expect_refusal(&b, 's', CASHIER, 0, REC_LIST, 33, "33");
+    expect_refusal(&b, 's', CASHIER, bad, REC_LIST, 33, "33 before 11");
+    expect_refusal(&b, 's', STEWARD, bad, REC_LIST, 11, "11 to a steward");
+    expect_run_as(&b, 's', CASHIER, 0, "", 33, false, 0, 0, 0, "33 without allowance");
+    expect_run_as(&b, 's', STEWARD, 0, "", 20, false, 0, 0, 0, "20 to a steward");
+}
+
+/* The call is no step and no false; what came before it stays, but for the variables. */
+static void figures_of_steward_call(void)
+{
+    static const char output[] = "          0.05\nab";
+    static struct both b;
+    const int32_t input[] = {7, 8};
+    struct rec_answer a;
+    both_fresh(&b);
+    define_text(&b, 'q', "('/5'S1OX''ab'Iw;''more'I;)");
+    define_steward(&b, 'w', "('/9'S2I;)");
+    a = both_run_as(&b, 'q', CASHIER, 1000, input, 2, REC_LIST, 100);
+    check(a.number == 34 && a.truth == 0 && a.steps == 6 && a.height == 2 && a.taken == 1
+              && a.written == 17, "figures of a steward call", "");
+    check(one_paper.list[0] == 5 && one_paper.list[1] == 7 && one_paper.list[2] == 0
+              && memcmp(one_paper.output, output, 17) == 0, "places of a steward call", "");
+    check(b.book.variables[0] == 0 && b.store.variables[0] == 0, "variables of 34", "");
+    a = both_run_as(&b, 'q', STEWARD, 1000, input, 2, REC_LIST, 100);
+    check(a.number == 0 && a.truth == 1 && a.steps == 12 && a.height == 4 && a.taken == 2
+              && a.written == 17 && one_paper.list[3] == 8, "figures of the steward's run", "");
+    check(b.book.variables[0] == 5 && b.store.variables[0] == 5 && b.book.variables[1] == 9
+              && b.store.variables[1] == 9, "variables of the steward's run", "");
+    define_text(&b, 'q', "(F1'/1'+S1S2w;)");
+    expect_run_as(&b, 'q', CASHIER, 1000, "", 34, false, 5, 1, 6, "variables of 34");
+    check(b.book.variables[0] == 5 && b.store.variables[0] == 5 && b.book.variables[1] == 9
+              && b.store.variables[1] == 9, "variables kept by 34", "");
+    expect_run_as(&b, 'q', CASHIER, 1000, "", 34, false, 5, 1, 6, "variables of 34 again");
+    expect_run_as(&b, 'q', STEWARD, 1000, "3", 0, true, 11, 3, 3, "variables of a steward's run");
+    check(b.book.variables[0] == 6 && b.book.variables[1] == 9, "variables of a finished run", "");
+    /* stops, and no falses */
+    define_text(&b, 'q', "(w;X;)");
+    expect_run(&b, 'q', 1000, "", 34, false, 0, 0, 0, "34 is no false");
+    define_text(&b, 'q', "((w;)X;)");
+    expect_run(&b, 'q', 1000, "", 34, false, 0, 0, 0, "34 in an inner expression");
+    define_text(&b, 'q', "('/1'N;w)");
+    expect_run(&b, 'q', 1000, "", 34, false, 2, 1, 1, "34 in a second segment");
+    define_text(&b, 'q', "($3$:w)");
+    expect_run(&b, 'q', 1000, "", 34, false, 7, 0, 0, "34 after a loop");
+    /* steward letters that no mark calls */
+    define_text(&b, 'q', "(;w)");
+    expect_runs(&b, 'q', 0, 0, "call past the end");
+    define_text(&b, 'q', "('/1'0w;\"w\"''w';)");
+    expect_run(&b, 'q', 1000, "", 0, true, 4, 1, 1, "call not come to");
+    define_text(&b, 'q', "('/-119''/119'$119$)");
+    expect_runs(&b, 'q', 0, 0, "codes of a call");
+}
+
+/* `a` to `z`, each calling the next; a steward letter at each place in turn, and then at
+ * every second. A steward's run goes through. */
+static void steward_calls_in_chains(void)
+{
+    static const char order[] = "abcdefghijklmnopqrstuvwxyz";
+    static struct both b;
+    char text[] = "( ;)";
+    for (int at = 0; at <= REC_LETTERS; at++) {
+        chain_of(&b, order, ' ');
+        for (int i = 0; i < REC_LETTERS; i++) {
+            text[1] = i == 25 ? ' ' : order[i + 1];
+            if (i == at || (at == REC_LETTERS && i % 2))
+                define_steward(&b, order[i], text);
+        }
+        for (int from = 0; from < REC_LETTERS; from++) {
+            uint32_t calls = (uint32_t)(25 - from); /* each has its `;`, so has the first text */
+            int next = at == REC_LETTERS ? from | 1 : at;
+            expect_run_as(&b, order[from], STEWARD, 1000, "", 0, true, 2 * calls + 1, 0, 0,
+                          "steward's chain");
+            if (from < next)
+                expect_run(&b, order[from], 1000, "", 34, false, (uint32_t)(next - from - 1), 0, 0,
+                           "chain to a steward letter");
+            else if (from == next)
+                expect_run(&b, order[from], 1000, "", 33, false, 0, 0, 0, "chain from one");
+            else
+                expect_run(&b, order[from], 1000, "", 0, true, 2 * calls + 1, 0, 0,
+                           "chain past one");
+        }
+    }
+}
+
+static void expect_ladder(struct both *b, int n, uint8_t role, uint32_t allowance,
+                          uint32_t number, bool truth, uint32_t steps)
+{
+    char input[16];
+    snprintf(input, sizeof input, "%d", n);
+    expect_run_as(b, 'm', role, allowance, input, number, truth, steps, 1, 0, "ladder");
+}
+
+/* The call of `e` is the one nested n + 2 deep, after 3 + 4n steps; for n = 100 that of
+ * `d` itself is too deep, after 401. 20 before 34, 34 before 28. */
+static void steward_calls_at_every_depth(void)
+{
+    static struct both b;
+    both_fresh(&b);
+    define_text(&b, 'm', "(Id;)");
+    define_text(&b, 'd', "(0e;'/1'-d;)");
+    define_steward(&b, 'e', "(;)");
+    for (int n = 0; n <= 99; n++) {
+        uint32_t steps = 3 + 4 * (uint32_t)n;
+        expect_ladder(&b, n, CASHIER, 1000, 34, false, steps);
+        expect_ladder(&b, n, CASHIER, steps + 1, 34, false, steps);
+        expect_ladder(&b, n, CASHIER, steps, 20, false, steps);
+        on_duty(true, SPENT_BEFORE_34);
+        if (n <= 98)
+            expect_ladder(&b, n, STEWARD, 1000, 0, true, 5 * (uint32_t)n + 7);
+        else
+            expect_ladder(&b, n, STEWARD, 1000, 28, false, 399);
+    }
+    expect_ladder(&b, 100, CASHIER, 1000, 28, false, 401);
+    expect_ladder(&b, 100, STEWARD, 1000, 28, false, 401);
+    define_text(&b, 'e', "(;)");
+    expect_ladder(&b, 98, CASHIER, 1000, 0, true, 497);
+    expect_ladder(&b, 99, CASHIER, 1000, 28, false, 399);
+    define_steward(&b, 'e', "(;)");
+    both_withdraw(&b, 'e');
+    expect_ladder(&b, 99, CASHIER, 1000, 27, false, 399);
+    expect_ladder(&b, 99, STEWARD, 1000, 27, false, 399);
+    define_steward(&b, 'd', "(0e;'/1'-d;)");
+    expect_run(&b, 'm', 1000, "0", 34, false, 1, 1, 0, "ladder itself a steward's");
+    expect_ladder(&b, 99, STEWARD, 1000, 27, false, 399);
+}
+
+/* "The role is remembered nowhere afterwards": not after a run that finishes, ends or is
+ * refused, nor in another book and store. */
+static void roles_of_runs_before(void)
+{
+    static struct both b, other;
+    both_fresh(&b);
+    both_fresh(&other);
+    define_text(&b, 'q', "(Iw;)");
+    define_steward(&b, 'w', "(;)");
+    define_steward(&other, 'w', "(;)");
+    for (int times = 0; times < 2; times++) {
+        expect_run_as(&b, 'q', CASHIER, 9, "1", 34, false, 1, 1, 1, "cashier");
+        expect_run_as(&b, 'q', STEWARD, 9, "1", 0, true, 4, 1, 1, "steward after 34");
+        expect_run_as(&b, 'q', CASHIER, 9, "1", 34, false, 1, 1, 1, "cashier after a steward");
+        expect_run_as(&b, 'q', STEWARD, 9, "", 25, false, 0, 0, 0, "steward's run ended");
+        expect_run_as(&b, 'q', CASHIER, 9, "1", 34, false, 1, 1, 1, "cashier after 25");
+        expect_run_as(&b, 'q', STEWARD, 2, "1", 20, false, 2, 1, 1, "steward's run spent");
+        expect_run_as(&b, 'w', CASHIER, 9, "", 33, false, 0, 0, 0, "cashier after 20");
+        expect_run_as(&b, 'w', STEWARD, 9, "", 0, true, 1, 0, 0, "steward after 33");
+        expect_run_as(&b, 'w', CASHIER, 9, "", 33, false, 0, 0, 0, "cashier after a steward");
+        expect_run_as(&b, 'w', STEWARD, 9, "1000000000", 11, false, 0, 0, 0, "steward's refused");
+        expect_run_as(&b, 'w', CASHIER, 9, "", 33, false, 0, 0, 0, "cashier after 11");
+        expect_run_as(&b, 'v', STEWARD, 9, "", 10, false, 0, 0, 0, "steward's refused");
+        expect_run_as(&b, 'q', CASHIER, 9, "1", 34, false, 1, 1, 1, "cashier after 10");
+        expect_run_as(&b, 'q', 2, 9, "1", 35, false, 0, 0, 0, "bad role");
+        expect_run_as(&b, 'q', STEWARD, 9, "1", 0, true, 4, 1, 1, "steward after 35");
+        expect_run_as(&b, 'q', 255, 9, "1", 35, false, 0, 0, 0, "bad role");
+        expect_run_as(&b, 'q', CASHIER, 9, "1", 34, false, 1, 1, 1, "cashier after 35");
+        expect_run_as(&other, 'w', STEWARD, 9, "", 0, true, 1, 0, 0, "steward elsewhere");
+        expect_run_as(&b, 'w', CASHIER, 9, "", 33, false, 0, 0, 0, "cashier here");
+    }
+}
+
+/* `a` calls `b`, and `b` calls `c`; each is cleared, open or a steward's. */
+static void all_small_stores(void)
+{
+    static const char *const texts[] = {"(b;)", "(c;)", "(;)"};
+    static struct both b;
+    for (int all = 0; all < 27; all++) {
+        const int states[] = {all % 3, all / 3 % 3, all / 9};
+        both_fresh(&b);
+        for (int i = 0; i < 3; i++)
+            if (states[i] > 0)
+                both_define_as(&b, (uint8_t)('a' + i), states[i] == 2, texts[i], strlen(texts[i]));
+        for (uint8_t role = 0; role < 2; role++)
+            for (int from = 0; from < 3; from++) {
+                uint32_t number = states[from] == 0 ? 10 : states[from] == 2 && !role ? 33 : 0;
+                int at = from;
+                while (number == 0 && at < 2) {
+                    number = states[at + 1] == 0 ? 27 : states[at + 1] == 2 && !role ? 34 : 0;
+                    at += number == 0;
+                }
+                expect_run_as(&b, (char)('a' + from), role, 9, "", number, number == 0,
+                              (uint32_t)(number ? at - from : 2 * (at - from) + 1), 0, 0,
+                              "small store");
+            }
+    }
+}
+
+/* ---- marks of damaged stores, by hand ---------------------------------- */
+
+static void expect_lone_run(struct rec_store *store, char letter, uint8_t role,
+                            uint32_t allowance, uint32_t number, uint32_t steps, const char *what)
+{
+    struct rec_answer a;
+    a = lone_run(store, (uint8_t)letter, role, allowance, NULL, 0, REC_LIST, 100);
+    check(a.number == number && a.steps == steps, "run of a lone store", what);
+}
+
+static uint32_t lone_text(struct rec_store *store, char letter, uint8_t mark, const char *text)
+{
+    return lone_define(store, (uint8_t)letter, mark, (const uint8_t *)text, strlen(text));
+}
+
+/* `b` is cleared and marked as a steward's, which no calls bring about: that is not 13.
+ * 10 before 33, 27 before 34 and 28. */
+static void cleared_steward_letters(void)
+{
+    static struct rec_store store;
+    const int32_t bad = REC_VALUE + 1;
+    rec_store_fresh(&store);
+    lone_text(&store, 'a', OPEN, "(b;)");
+    lone_text(&store, 'm', OPEN, "(Id;)");
+    lone_text(&store, 'd', OPEN, "(0b;'/1'-d;)");
+    store.marks[1] = FOR_STEWARDS;
+    for (uint8_t role = 0; role < 2; role++) {
+        const int32_t inputs[] = {99};
+        expect_lone_run(&store, 'b', role, 9, 10, 0, "10 before 33");
+        check(lone_run(&store, 'b', role, 9, &bad, 1, REC_LIST, 9).number == 10, "10, 33, 11", "");
+        check(lone_run(&store, 'b', role, 9, NULL, 0, 63, 9).number == 10, "10, 33, 12", "");
+        expect_lone_run(&store, 'a', role, 9, 27, 0, "27 before 34");
+        expect_lone_run(&store, 'a', role, 0, 20, 0, "20 before 27 and 34");
+        check(lone_run(&store, 'm', role, 1000, inputs, 1, REC_LIST, 9).number == 27,
+              "27 before 34 and 28", "");
+    }
+    expect_lone_run(&store, 'b', 2, 9, 35, 0, "35 before 10");
+    check(lone_withdraw(&store, 'b') == 10 && store.marks[1] == FOR_STEWARDS, "withdraw", "");
+    check(lone_text(&store, 'b', OPEN, "(") == 7 && store.marks[1] == FOR_STEWARDS, "define", "");
+    check(lone_text(&store, 'b', 2, "(;)") == 35 && store.marks[1] == FOR_STEWARDS, "define", "");
+    expect_number(&store, 'a', 0, "cleared steward letter");
+    expect_number(&store, 'b', 10, "cleared steward letter");
+    check(lone_text(&store, 'b', OPEN, "(;)") == 0 && store.marks[1] == OPEN, "define", "");
+    expect_lone_run(&store, 'a', CASHIER, 9, 0, 3, "defined as open");
+    store.used[1] = 0;
+    check(lone_text(&store, 'b', FOR_STEWARDS, "(;)") == 0, "define", "");
+    expect_lone_run(&store, 'a', CASHIER, 9, 34, 0, "defined as a steward's");
+}
+
+/* The same of a book, which calls leave so no more than a store: its orders are the same. */
+static void cleared_steward_letters_of_books(void)
+{
+    static struct both b;
+    both_fresh(&b);
+    define_text(&b, 'a', "(b;)");
+    define_text(&b, 'm', "(Id;)");
+    define_text(&b, 'd', "(0b;'/1'-d;)");
+    b.book.marks[1] = b.store.marks[1] = b.marks[1] = FOR_STEWARDS;
+    for (uint8_t role = 0; role < 2; role++) {
+        expect_refusal(&b, 'b', role, 0, REC_LIST, 10, "10 before 33");
+        expect_refusal(&b, 'b', role, -REC_VALUE - 1, 63, 10, "10, 33, 11, 12");
+        expect_run_as(&b, 'a', role, 9, "", 27, false, 0, 0, 0, "27 before 34");
+        expect_run_as(&b, 'm', role, 1000, "99", 27, false, 399, 1, 0, "27 before 34 and 28");
+    }
+    expect_withdraw(&b, 'b', 10);
+    expect_define(&b, 'b', OPEN, "(", 7);
+    expect_marks(&b, "b", "refused");
+    expect_define(&b, 'b', OPEN, "(;)", 0);
+    expect_marks(&b, "", "made open");
+    expect_runs(&b, 'a', 0, 0, "made open");
+}
+
+/* Table of letter `a`, which calls `b`. Of `b` no cell is read by a cashier's run. */
+static void expect_damaged_call(const char *cells, size_t used, uint32_t cashiers,
+                                uint32_t stewards, uint32_t steps)
+{
+    static struct rec_store store;
+    rec_store_fresh(&store);
+    put_cells(store.cells, cells);
+    store.used[0] = used;
+    put_cells(store.cells + REC_CELLS, "2000,-66,0,1");
+    store.used[1] = 4;
+    store.marks[1] = FOR_STEWARDS;
+    expect_lone_run(&store, 'a', CASHIER, 9, cashiers, steps, cells);
+    expect_lone_run(&store, 'a', STEWARD, 9, stewards, steps + (cashiers == 34), cells);
+    expect_lone_run(&store, 'a', CASHIER, steps, cashiers == 34 ? 20 : cashiers, steps, cells);
+    store.used[1] = 0;
+    expect_lone_run(&store, 'a', CASHIER, 9, cashiers == 34 ? 27 : cashiers, steps, cells);
+}
+
+/* 29, then 20, then 34. */
+static void damaged_steward_calls(void)
+{
+    expect_damaged_call("2000,-98,5,6,0,1", 6, 34, 29, 0);
+    expect_damaged_call("2000,-98,7,6,0,1", 6, 29, 29, 0);
+    expect_damaged_call("2000,-98,1,6,0,1", 6, 29, 29, 0);
+    expect_damaged_call("2000,-98,0,6,0,1", 6, 29, 29, 0);
+    expect_damaged_call("2000,-98,-98,6,0,1", 6, 29, 29, 0);
+    expect_damaged_call("2000,-98,0,1", 4, 29, 29, 0);
+    expect_damaged_call("2000,-88,-98,0,1", 5, 29, 29, 1);
+    expect_damaged_call("2000,-88,-98,7,7,0,1", 7, 34, 29, 1);
+    expect_damaged_call("2000,-88,-98,8,7,0,1", 7, 29, 29, 1);
+    /* a transfer into a constant, where a call stands */
+    expect_damaged_call("2000,4,-175,-98,7,0,1", 7, 34, 29, 1);
+    expect_damaged_call("2000,4,-175,-98,8,0,1", 7, 29, 29, 1);
+}
+
+/* Every call of a store with a mark that is neither of the two. */
+static void expect_13(struct rec_store *store)
+{
+    static const uint8_t longer[257];
+    static const uint8_t roles[] = {CASHIER, STEWARD, 2, 255};
+    const int32_t bad = -REC_VALUE - 1;
+    for (const char *letter = "oscAz"; *letter; letter++) {
+        uint8_t byte = (uint8_t)*letter;
+        for (size_t i = 0; i < 4; i++) {
+            check(lone_run(store, byte, roles[i], 9, NULL, 0, REC_LIST, 9).number == 13,
+                  "13 of a run", "");
+            check(lone_run(store, byte, roles[i], 9, &bad, 1, REC_LIST, 9).number == 13,
+                  "13 before 11", "");
+            check(lone_run(store, byte, roles[i], 9, NULL, 0, 65, 9).number == 13,
+                  "13 before 12", "");
+            check(lone_text(store, *letter, roles[i], "(;)") == 13, "13 of a define", "");
+            check(lone_text(store, *letter, roles[i], "#") == 13, "13 before 3", "");
+            check(lone_define(store, byte, roles[i], longer, 257) == 13, "13 before 2", "");
+        }
+        check(lone_withdraw(store, byte) == 13, "13 of a withdraw", "");
+        expect_number(store, byte, 13, "13 of a reach");
+    }
+}
+
+/* "The bad-store test covers a mark with any other value." `o` is open, `s` a steward's,
+ * the others are cleared. */
+static void strange_marks_of_stores(void)
+{
+    static const uint8_t strange[] = {2, 255};
+    static struct rec_store store;
+    rec_store_fresh(&store);
+    lone_text(&store, 'o', OPEN, "(s;)");
+    lone_text(&store, 's', FOR_STEWARDS, "(o;)");
+    for (size_t i = 0; i < REC_LETTERS; i++)
+        for (size_t j = 0; j < 2; j++) {
+            uint8_t kept = store.marks[i];
+            store.marks[i] = strange[j];
+            expect_13(&store);
+            store.marks[i] = kept;
+        }
+    for (int mark = 0; mark < 256; mark++) {
+        store.marks[2] = (uint8_t)mark;
+        expect_lone_run(&store, 'o', CASHIER, 9, mark < 2 ? 34 : 13, 0, "mark of `c`");
+        expect_lone_run(&store, 's', CASHIER, 9, mark < 2 ? 33 : 13, 0, "mark of `c`");
+        expect_lone_run(&store, 'c', CASHIER, 9, mark < 2 ? 10 : 13, 0, "mark of `c`");
+    }
+}
+
+/* A store's marks that are not its book's: those alone decide. */
+static void turned_marks(void)
+{
+    static struct rec_store store;
+    rec_store_fresh(&store);
+    lone_text(&store, 'a', OPEN, "(b;)");
+    lone_text(&store, 'b', OPEN, "(;)");
+    for (int marks = 0; marks < 4; marks++) {
+        store.marks[0] = marks & 1;
+        store.marks[1] = (uint8_t)(marks >> 1);
+        expect_lone_run(&store, 'a', STEWARD, 9, 0, 3, "turned");
+        expect_lone_run(&store, 'a', CASHIER, 9, marks & 1 ? 33 : marks ? 34 : 0, marks ? 0 : 3,
+                        "turned");
+        expect_number(&store, 'a', 0, "turned");
+    }
+}
+
+/* Whatever text the steward letter `w` has, a cashier's runs are the same. */
+static void steward_texts_by_hand(void)
+{
+    static const char *const texts[] = {
+        "(;)", "()", "(:)", "(w;)", "(q;)", "(v;)", "(L;)", "('/1':)", "('/9'S2;)", "(IX''more';)",
+        "($9999$:)", "((((((((((w))))))))))"};
+    static struct both b;
+    both_fresh(&b);
+    define_text(&b, 'q', "('/7'S2O''ab'(INw;)X;)");
+    for (size_t i = 0; i < sizeof texts / sizeof texts[0]; i++) {
+        check(define_steward(&b, 'w', texts[i]) == 0, "define", texts[i]);
+        expect_run(&b, 'q', 99, "-1", 34, false, 6, 2, -1, texts[i]);
+        on_duty(true, REPLACED_AND_34);
+        expect_run(&b, 'q', 99, "1", 0, false, 8, 2, 1, texts[i]);
+        on_duty(true, REPLACED_AND_FINISHED);
+        expect_run(&b, 'w', 99, "1", 33, false, 0, 0, 0, texts[i]);
+        on_duty(true, REPLACED_AND_33);
+    }
+}
+
+static void duties_by_hand(void)
+{
+    marks_of_calls();
+    marks_of_all_letters();
+    strange_marks_and_roles();
+    order_of_define();
+    order_of_runs();
+    figures_of_steward_call();
+    steward_calls_in_chains();
+    steward_calls_at_every_depth();
+    roles_of_runs_before();
+    all_small_stores();
+    cleared_steward_letters();
+    cleared_steward_letters_of_books();
+    damaged_steward_calls();
+    strange_marks_of_stores();
+    turned_marks();
+    steward_texts_by_hand();
+}
+
 /* ---- the desk ---------------------------------------------------------- */
 
 static size_t desk_output(const char *input, size_t length, char *output, size_t room)
@@ -2964,6 +4032,7 @@ static size_t desk_output(const char *input, size_t length, char *output, size_t
     rewind(in);
     desk(in, out, &tally);
     check((unsigned long long)ftell(out) == tally.bytes, "bytes counted", "");
+    check(tally.numbers[33] + tally.numbers[34] + tally.numbers[35] == 0, "U7's numbers", "desk");
     rewind(out);
     got = fread(output, 1, room, out);
     fclose(in);
@@ -3034,6 +4103,9 @@ static void desk_examples(void)
                 "   3   0  1         4   1          5\n          0.05\n\n"
                 "   4  20  0         2   1          0\n          0.00\n"
                 "   5   0  1         4   1 -999999999\n   -9999999.99\n\n");
+    /* letters are open, so a cashier's run may call each (U7) */
+    expect_answer("D a (b;)\nD b (c;)\nD c (;)\nR a 9\nR b 9\nR c 9\nX c\nR a 9\nD c ()\nR a 9",
+                  "0 0 0 0 0 0 0 27 0 0");
     expect_desk("", "");
     expect_desk("\n", "   1  14  0         0   0          0\n");
     expect_desk("\n\n", "   1  14  0         0   0          0\n"
@@ -3129,6 +4201,13 @@ static void desk_many(void)
 }
 
 /* ---- random comparisons ------------------------------------------------ */
+
+/* Or a role; neither of the two at times. */
+static uint8_t random_mark(struct random *r)
+{
+    static const uint8_t strange[] = {2, 3, 127, 128, 254, 255};
+    return chance(r, 93) ? chance(r, 40) : strange[below(r, 6)];
+}
 
 static void random_text(struct random *r, const uint8_t *letters, struct text *text)
 {
@@ -3266,14 +4345,16 @@ static void random_readings(struct random *r, const uint8_t *letters, unsigned *
 
 /* A run that would not stop within a short trial gets no high allowance. */
 static uint32_t random_allowance(struct random *r, const struct both *b, uint8_t letter,
-                                 const int32_t *input, size_t count, size_t output_length)
+                                 uint8_t role, const int32_t *input, size_t count,
+                                 size_t output_length)
 {
     static struct paper trial;
     struct rec_loan loan = {input, count, trial.list, REC_LIST, trial.output, output_length};
     int32_t variables[REC_VARIABLES];
     struct rec_answer a;
     memcpy(variables, b->store.variables, sizeof variables);
-    a = rec_store_run(b->store.cells, b->store.used, variables, letter, 3000, &loan);
+    a = rec_store_run(b->store.cells, b->store.used, b->store.marks, variables, letter, role, 3000,
+                      &loan);
     switch (below(r, 6)) {
     case 0:
         return a.steps + below(r, 3) - (a.steps > 0);
@@ -3286,59 +4367,65 @@ static uint32_t random_allowance(struct random *r, const struct both *b, uint8_t
     }
 }
 
-static void random_run(struct random *r, struct both *b, uint8_t letter, unsigned *numbers)
+static void random_run(struct random *r, struct both *b, uint8_t letter, bool marked,
+                       unsigned *numbers)
 {
     static const size_t lengths[] = {0, 1, 13, 14, 15, 28, 40, 100, 4096, 5200};
     int32_t input[80];
     size_t count = below(r, chance(r, 80) ? 6 : 80);
     size_t list = chance(r, 97) ? REC_LIST : below(r, REC_LIST + GUARD);
     size_t output = chance(r, 50) ? 4096 : lengths[below(r, 10)];
+    uint8_t role = marked ? random_mark(r) : CASHIER;
     uint32_t allowance;
     for (size_t i = 0; i < count; i++)
         input[i] = random_value(r);
     if (count > 0 && chance(r, 2))
         input[below(r, (uint32_t)count)] = chance(r, 50) ? 1000000000 : INT32_MIN;
-    allowance = random_allowance(r, b, letter, input, count, output);
-    numbers[both_run(b, letter, allowance, input, count, list, output).number]++;
+    allowance = random_allowance(r, b, letter, role, input, count, output);
+    numbers[both_run_as(b, letter, role, allowance, input, count, list, output).number]++;
 }
 
-static void random_call(struct random *r, struct both *b, const uint8_t *letters,
+static void random_call(struct random *r, struct both *b, const uint8_t *letters, bool marked,
                         unsigned *numbers)
 {
     static const char *const sets[] = {"($3$'/1'+;)", "(0L'/1';'/1'-e'/2'*;)", "(Ie;)",
                                        "((b;c)(c;b)$2$:;)", "($5$b''r'b;$2$X;)", "(a;b;c:)"};
     struct text text;
     uint8_t letter = chance(r, 97) ? letters[below(r, 5)] : (uint8_t)below(r, 256);
+    uint8_t mark = marked ? random_mark(r) : OPEN;
     uint32_t pick = below(r, 100);
     if (pick < 35) {
         random_text(r, letters, &text);
         if (chance(r, 10))
             text_spoil(r, &text);
         compare_accounts(text.bytes, text.length);
-        numbers[both_define(b, letter, text.bytes, text.length)]++;
+        numbers[both_define_as(b, letter, mark, text.bytes, text.length)]++;
     } else if (pick < 40) {
         const char *set = sets[below(r, 6)];
-        numbers[both_define(b, letter, set, strlen(set))]++;
+        numbers[both_define_as(b, letter, mark, set, strlen(set))]++;
     } else if (pick < 44) {
         numbers[both_withdraw(b, letter)]++;
     } else {
-        random_run(r, b, letter, numbers);
+        random_run(r, b, letter, marked, numbers);
     }
 }
 
+/* Every second one has open letters and cashiers alone. */
 static void random_history(uint64_t seed, unsigned *numbers)
 {
     static struct both b;
     struct random r;
     struct ways w;
     uint8_t letters[5];
+    bool marked;
     random_seed(&r, seed);
     for (size_t i = 0; i < 5; i++)
         letters[i] = (uint8_t)between(&r, 'a', 'e');
     random_readings(&r, letters, numbers);
     both_fresh(&b);
+    marked = chance(&r, 50);
     for (int i = between(&r, 5, 60); i > 0; i--)
-        random_call(&r, &b, letters, numbers);
+        random_call(&r, &b, letters, marked, numbers);
     ways_of_texts(&b, &w);
     for (uint8_t letter = 'a'; letter <= 'f'; letter++)
         compare_reach(&b.store, &w, letter, "end of a history");
@@ -3432,7 +4519,7 @@ static void define_chain(struct random *r, struct both *b)
         uint8_t calls[] = {last ? any_letter(r) : letters[i + 1],
                            letters[below(r, (uint32_t)i + 1)]};
         text_of_calls(r, calls, last && chance(r, 50) ? 0 : chance(r, 90) ? 1 : 2, &text);
-        both_define(b, letters[i], text.bytes, text.length);
+        both_define_as(b, letters[i], chance(r, 20), text.bytes, text.length);
     }
 }
 
@@ -3458,7 +4545,7 @@ static void define_net(struct random *r, struct both *b)
         } else {
             text_of_calls(r, calls, (size_t)between(r, 0, most), &text);
         }
-        both_define(b, letter, text.bytes, text.length);
+        both_define_as(b, letter, chance(r, 20), text.bytes, text.length);
     }
 }
 
@@ -3477,13 +4564,13 @@ static void reach_after_call(struct random *r, struct both *b)
     switch (below(r, 4)) {
     case 0:
         text_of_calls(r, calls, below(r, 3), &text);
-        both_define(b, letter, text.bytes, text.length);
+        both_define_as(b, letter, random_mark(r), text.bytes, text.length);
         break;
     case 1:
         both_withdraw(b, letter);
         break;
     default:
-        both_run(b, letter, below(r, 300), input, 3, REC_LIST, 100);
+        both_run_as(b, letter, random_mark(r), below(r, 300), input, 3, REC_LIST, 100);
         break;
     }
     ways_of_texts(b, &w);
@@ -3500,7 +4587,10 @@ static void reach_past_changes(struct random *r, const struct both *b, struct re
         size_t letter = below(r, REC_LETTERS), other = below(r, REC_LETTERS);
         size_t used = store->used[letter];
         int32_t *cells = store->cells + letter * REC_CELLS;
-        if (used == 0) {
+        if (chance(r, 20)) {
+            store->marks[letter] ^= 1;
+            sighted(true, MARK_TURNED);
+        } else if (used == 0) {
             memcpy(cells, store->cells + other * REC_CELLS, REC_CELLS * sizeof cells[0]);
             cells[1] = chance(r, 50) ? cells[1] : -66;
             sighted(store->used[other] != 0, CLEARED_CHANGED);
@@ -3550,9 +4640,11 @@ static void spoil_store(struct random *r, struct rec_store *store)
         store->used[letter] = counts[below(r, 7)];
     else if (pick < 5)
         store->variables[below(r, REC_VARIABLES)] = random_cell(r, 250);
+    else if (pick < 8)
+        store->marks[letter] = random_mark(r);
     else if (used < 3 || used > REC_CELLS)
         return;
-    else if (pick < 10)
+    else if (pick < 13)
         store->used[letter] = used + below(r, 5) - 2;
     else
         store->cells[letter * REC_CELLS + (size_t)between(r, 1, (int32_t)used - 1)]
@@ -3663,6 +4755,205 @@ static void random_payouts(uint64_t seed)
     }
 }
 
+/* ---- random marks and roles -------------------------------------------- */
+
+/* Of the letters `a` to `f` mostly. */
+static uint8_t duty_letter(struct random *r)
+{
+    return chance(r, 92) ? (uint8_t)between(r, 'a', 'f') : (uint8_t)below(r, 256);
+}
+
+/* Texts that call, and some that are refused. */
+static void duty_text(struct random *r, struct text *text)
+{
+    static const char *const texts[] = {
+        "(;)", "()", "(b;)", "(c)", "(de;f)", "(Ib;)", "(IS1Lc;)", "(''ab'Xd;)", "('/7'S2Oe;)",
+        "(0f;'/1'-d;)", "(Id;)", "(a:)", "($3$b:;)", "(IN;f)", "((a;)(b;);)", "(F1'/1'+S1c;)"};
+    uint8_t calls[4];
+    uint32_t pick = below(r, 100);
+    for (size_t i = 0; i < 4; i++)
+        calls[i] = (uint8_t)between(r, 'a', 'f');
+    text_clear(text);
+    if (pick < 40) {
+        text_add(text, texts[below(r, sizeof texts / sizeof texts[0])]);
+    } else if (pick < 75) {
+        text_of_calls(r, calls, below(r, 5), text);
+    } else if (pick < 90) {
+        struct taste taste = random_taste(r, calls, 4);
+        taste.size = 60;
+        taste.calls = 25;
+        text_random(r, &taste, text);
+    } else if (pick < 95) {
+        text_fill(text, " ", 257);
+    } else {
+        random_bytes(r, text);
+    }
+}
+
+static void define_duty(struct random *r, struct both *b, uint8_t letter)
+{
+    struct text text;
+    duty_text(r, &text);
+    both_define_as(b, letter, random_mark(r), text.bytes, text.length);
+}
+
+/* What a run takes; at times something is bad. */
+struct takes {
+    int32_t input[4];
+    size_t count;
+    size_t list;
+    size_t output;
+    uint32_t allowance;
+};
+
+static struct takes random_takes(struct random *r)
+{
+    struct takes t = {.count = below(r, 5), .list = REC_LIST, .output = chance(r, 80) ? 100 : 10};
+    for (size_t i = 0; i < t.count; i++)
+        t.input[i] = between(r, -2, 5);
+    if (t.count > 0 && chance(r, 8))
+        t.input[below(r, (uint32_t)t.count)] = chance(r, 50) ? 1000000000 : -1000000000;
+    if (chance(r, 8))
+        t.list = below(r, 2 * REC_LIST);
+    t.allowance = below(r, chance(r, 30) ? 12 : 400);
+    return t;
+}
+
+/* A run; where it ends 34, once more with no step left for the call. */
+static void run_duty(struct both *b, uint8_t letter, uint8_t role, const struct takes *t)
+{
+    static struct paper paper;
+    struct rec_answer a, spent;
+    a = both_run_as(b, letter, role, t->allowance, t->input, t->count, t->list, t->output);
+    if (a.number != 34)
+        return;
+    paper = one_paper;
+    spent = both_run_as(b, letter, role, a.steps, t->input, t->count, t->list, t->output);
+    a.number = 20;
+    check(same_answer(&a, &spent), "20 before 34", "");
+    check(memcmp(&paper, &one_paper, sizeof paper) == 0, "places of 20 and 34", "");
+    on_duty(true, SPENT_BEFORE_34);
+}
+
+/* `f` is called about 100 deep, whatever it is. */
+static void duty_ladder(struct random *r, struct both *b)
+{
+    const int32_t input[] = {between(r, 96, 101)};
+    both_define_as(b, 'd', OPEN, "(0f;'/1'-d;)", 12);
+    both_define_as(b, 'a', OPEN, "(Id;)", 5);
+    if (chance(r, 30))
+        both_define_as(b, 'f', FOR_STEWARDS, "(;)", 3);
+    both_run_as(b, 'a', chance(r, 20), 1000, input, 1, REC_LIST, 100);
+}
+
+static void duty_call(struct random *r, struct both *b)
+{
+    uint8_t letter = duty_letter(r);
+    uint32_t pick = below(r, 100);
+    if (pick < 35) {
+        define_duty(r, b, letter);
+    } else if (pick < 42) {
+        both_withdraw(b, letter);
+    } else if (pick < 45) {
+        duty_ladder(r, b);
+    } else {
+        struct takes t = random_takes(r);
+        run_duty(b, letter, random_mark(r), &t);
+    }
+}
+
+/* All steward letters get other texts, their marks stay. */
+static void replace_steward_texts(struct random *r, struct both *b)
+{
+    static struct rec_tree tree;
+    struct text text;
+    for (size_t i = 0; i < REC_LETTERS; i++) {
+        if (b->marks[i] != FOR_STEWARDS)
+            continue;
+        do
+            duty_text(r, &text);
+        while (rec_read(text.bytes, text.length, &tree) != 0);
+        both_define_as(b, (uint8_t)('a' + i), FOR_STEWARDS, text.bytes, text.length);
+    }
+}
+
+/* No cashier's run calls a steward letter, so what these hold is nothing to it. */
+static void steward_texts_replaced(struct random *r, struct both *b)
+{
+    static struct both other;
+    static struct paper paper;
+    memcpy(&other, b, sizeof other);
+    replace_steward_texts(r, &other);
+    for (uint8_t letter = 'a'; letter <= 'f'; letter++) {
+        struct takes t = random_takes(r);
+        struct rec_answer one, two;
+        one = both_run_as(b, letter, CASHIER, t.allowance, t.input, t.count, t.list, t.output);
+        paper = one_paper;
+        two = both_run_as(&other, letter, CASHIER, t.allowance, t.input, t.count, t.list,
+                          t.output);
+        check(same_answer(&one, &two), "answer whatever the steward texts", "");
+        check(memcmp(&paper, &one_paper, sizeof paper) == 0, "places whatever the steward texts",
+              "");
+        check(memcmp(b->book.variables, other.book.variables, sizeof b->book.variables) == 0,
+              "variables whatever the steward texts", "");
+        if (steward_letters(b->marks)) {
+            on_duty(one.number == 33, REPLACED_AND_33);
+            on_duty(one.number == 34, REPLACED_AND_34);
+            on_duty(one.number == 0, REPLACED_AND_FINISHED);
+        }
+    }
+}
+
+/* Marks mostly, and the cells of what is called. */
+static void spoil_marks(struct random *r, struct rec_store *store)
+{
+    size_t letter = below(r, chance(r, 80) ? 6 : REC_LETTERS);
+    size_t used = store->used[letter];
+    uint32_t pick = below(r, 100);
+    if (pick < 8)
+        store->marks[letter] = (uint8_t)between(r, 2, 255);
+    else if (pick < 60)
+        store->marks[letter] ^= 1;
+    else if (pick < 65 || used < 3 || used > REC_CELLS)
+        spoil_store(r, store);
+    else
+        store->cells[letter * REC_CELLS + (size_t)between(r, 1, (int32_t)used - 1)]
+            = random_cell(r, used);
+}
+
+static void duties_of_spoilt(struct random *r, const struct both *b)
+{
+    static struct rec_store store;
+    struct text text;
+    memcpy(&store, &b->store, sizeof store);
+    for (int i = between(r, 1, 4); i > 0; i--)
+        spoil_marks(r, &store);
+    for (int i = 0; i < 4; i++) {
+        struct takes t = random_takes(r);
+        lone_run(&store, duty_letter(r), random_mark(r), t.allowance, t.input, t.count, t.list,
+                 t.output);
+    }
+    lone_withdraw(&store, duty_letter(r));
+    duty_text(r, &text);
+    lone_define(&store, duty_letter(r), random_mark(r), text.bytes, text.length);
+}
+
+static void random_duties(uint64_t seed)
+{
+    static struct both b;
+    struct random r;
+    random_seed(&r, ~seed ^ (uint64_t)1 << 63);
+    both_fresh(&b);
+    for (uint8_t letter = 'a'; letter <= 'f'; letter++)
+        if (chance(&r, 70))
+            define_duty(&r, &b, letter);
+    for (int i = between(&r, 4, 16); i > 0; i--)
+        duty_call(&r, &b);
+    steward_texts_replaced(&r, &b);
+    for (int i = 0; i < 2; i++)
+        duties_of_spoilt(&r, &b);
+}
+
 /* ---- all short texts --------------------------------------------------- */
 
 /* All texts that go on from this one by up to `more` bytes. */
@@ -3723,6 +5014,7 @@ static bool directed(void)
     payouts_by_hand();
     quotients_by_hand();
     columns_by_hand();
+    duties_by_hand();
     desk_examples();
     desk_paper();
     desk_edges();
@@ -3741,6 +5033,7 @@ static bool one_history(uint64_t seed)
     random_payouts(seed);
     random_quotients(seed);
     random_columns(seed);
+    random_duties(seed);
     return wrong == 0;
 }
 
@@ -3829,6 +5122,38 @@ static bool counts_of_columns(bool of_histories, unsigned least)
     return good;
 }
 
+/* Of the pairs in an order, those that never fit at once: a letter that is none is not
+ * cleared and has no mark, a text has one first fault, and a bad role is no cashier's. */
+static bool fit_at_once(uint32_t earlier, uint32_t later)
+{
+    return !(earlier == 1 && (later == 10 || later == 33)) && !(earlier == 2 && later == 3)
+        && !(earlier == 35 && later == 33);
+}
+
+/* Each duty, each refusal of each call, and each that hides a later one. */
+static bool counts_of_duties(bool of_histories, unsigned least)
+{
+    bool good = true;
+    for (size_t i = 0; i < DUTIES; i++)
+        good &= met(duties[of_histories][i], least, "marks and roles: %s", duty_words[i]);
+    for (size_t asked = 0; asked < ASKED; asked++)
+        for (size_t i = 0; call_orders[asked][i] != 0; i++)
+            for (size_t j = i; call_orders[asked][j] != 0; j++) {
+                unsigned long long times = pairs_met[of_histories][asked][i][j];
+                unsigned earlier = call_orders[asked][i], later = call_orders[asked][j];
+                if (i == j)
+                    good &= met(times, least, "marks and roles: %s, %u", asked_words[asked],
+                                earlier);
+                else if (fit_at_once(earlier, later))
+                    good &= met(times, least, "marks and roles: %s, %u before %u",
+                                asked_words[asked], earlier, later);
+                else
+                    good &= check(times == 0, "numbers that never fit at once",
+                                  asked_words[asked]);
+            }
+    return good;
+}
+
 /* Each number but 14, of desk lines alone, 13 and 29, which no history has, 30, of
  * clean prints alone, and 31 and 32, of payouts alone. */
 static bool counts(bool only_directed, bool full)
@@ -3839,11 +5164,12 @@ static bool counts(bool only_directed, bool full)
         good &= counts_of_reaches(false, 1);
         good &= counts_of_payouts(false, 1);
         good &= counts_of_quotients(false, 1);
-        return counts_of_columns(false, 1) && good;
+        good &= counts_of_columns(false, 1);
+        return counts_of_duties(false, 1) && good;
     }
     printf("%u checks\n", tried);
     for (uint32_t i = 0; i < REC_NUMBERS; i++) {
-        if (i <= REC_BAD_LIST || (i >= REC_SPENT && i < REC_DAMAGED))
+        if (i <= REC_BAD_LIST || (i >= REC_SPENT && i < REC_DAMAGED) || (i >= 33 && i <= 35))
             good &= met(numbers[i], full ? 10 : 0, "number %u (%s)", (unsigned)i, number_word(i));
         else
             good &= check(numbers[i] == 0, "a number that no history has", number_word(i));
@@ -3852,7 +5178,8 @@ static bool counts(bool only_directed, bool full)
     good &= counts_of_reaches(true, full ? 10 : 0);
     good &= counts_of_payouts(true, full ? 10 : 0);
     good &= counts_of_quotients(true, full ? 10 : 0);
-    return counts_of_columns(true, full ? 10 : 0) && good;
+    good &= counts_of_columns(true, full ? 10 : 0);
+    return counts_of_duties(true, full ? 10 : 0) && good;
 }
 
 int main(int count, char **words)

@@ -6,18 +6,22 @@ use Rattle.language.specs.Machine.{decode}
 use Rattle.book.specs.Book.{freshBook, bookCall}
 use Rattle.book.specs.Store.{freshStore, storeCall}
 use Rattle.book.specs.History.{answers, after}
-use Rattle.book.specs.Examples.{Hold, HoldLent, HoldKept, HoldFound, sessions, lendings, keepings, damaged, spoilt}
+use Rattle.book.specs.Examples.{Hold, HoldLent, HoldKept, HoldFound, sessions, roles, lendings, keepings, damaged, spoilt}
 
 pub sessions-hold : Hold sessions
 unfolding freshBook freshStore answers bookCall storeCall isValue perform ask decode
 sessions-hold = refl
+
+pub roles-hold : Hold roles
+unfolding freshBook freshStore answers bookCall storeCall isValue perform ask decode
+roles-hold = refl
 
 pub lendings-hold : HoldLent lendings
 unfolding freshBook freshStore answers bookCall storeCall isValue perform ask decode
 lendings-hold = refl
 
 pub keepings-hold : HoldKept keepings
-unfolding freshStore after storeCall isValue perform ask decode
+unfolding freshBook freshStore after bookCall storeCall isValue perform ask decode
 keepings-hold = refl
 
 pub damaged-hold : HoldFound damaged

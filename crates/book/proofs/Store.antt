@@ -17,7 +17,8 @@ use Rattle.language.specs.Limits.{maxCells, maxLetters, storeCells}
 use Rattle.language.specs.Meaning.{Outcome, ended, stopped}
 use Rattle.language.specs.Letters.{letterIndex}
 use Rattle.language.specs.Effects.{start}
-use Rattle.language.specs.Tables.{tableAt, standsAt, execute, soundUsed}
+use Rattle.language.specs.Roles.{openMark, letterMark}
+use Rattle.language.specs.Tables.{tableAt, standsAt, execute, soundUsed, soundMarks}
 use Rattle.language.specs.Values.{lawful}
 use Rattle.language.proofs.Answers.{ending-no-refusal}
 use Rattle.book.specs.Calls.{Call, defines, withdraws, runs, lentList, lentOutput}
@@ -87,11 +88,15 @@ table-other c u a b t hc lt ht ne =
 
 pub entry-same : EntrySame
 unfolding withEntry
-entry-same st a e sp lt full = λ i. record { table = table-same (st .cells) (st .used) a (e .table) (sp .cells) (sp .used) lt full i }
+entry-same st a e sp lt full =
+    let m = getD-set-same (st .marks) a (e .mark) openMark (omega (arith, sp .marks)) in
+    λ i. record { table = table-same (st .cells) (st .used) a (e .table) (sp .cells) (sp .used) lt full i; mark = m i }
 
 pub entry-other : EntryOther
 unfolding withEntry
-entry-other st a b e sp lt full ne = λ i. record { table = table-other (st .cells) (st .used) a b (e .table) (sp .cells) lt full ne i }
+entry-other st a b e sp lt full ne =
+    let m = getD-set-other (st .marks) a b (e .mark) openMark ne in
+    λ i. record { table = table-other (st .cells) (st .used) a b (e .table) (sp .cells) lt full ne i; mark = m i }
 
 -- ── two entries ─────────────────────────────────────────────────────────────────────────────────
 
@@ -155,7 +160,8 @@ entry-commute st a b e f sp la lb he hf ne =
     let cs : paste (paste (st .cells) (a * maxCells) (e .table .cells) maxCells) (b * maxCells) (f .table .cells) maxCells
     ≡ paste (paste (st .cells) (b * maxCells) (f .table .cells) maxCells) (a * maxCells) (e .table .cells) maxCells = go (ltb a b) refl in
     let us = set-comm (st .used) a b (e .table .used) (f .table .used) (λ q. ne (sym q)) in
-    λ i. record { cells = cs i; used = us i; variables = st .variables }
+    let ms = set-comm (st .marks) a b (e .mark) (f .mark) (λ q. ne (sym q)) in
+    λ i. record { cells = cs i; used = us i; marks = ms i; variables = st .variables }
   where
     go : (v : Bool) → ltb a b ≡ v
         → paste (paste (st .cells) (a * maxCells) (e .table .cells) maxCells) (b * maxCells) (f .table .cells) maxCells
@@ -177,16 +183,16 @@ reported-accepts v n (stopped e s r) = ending-no-refusal e
 
 accepts-accepts : (st : Store) (c : Call) → isRefusal (storeAccepts st c .reply .report .number) ≡ false
 unfolding storeAccepts tells
-accepts-accepts st (defines l t) = refl
+accepts-accepts st (defines l k t) = refl
 accepts-accepts st (withdraws l) = refl
 accepts-accepts st (runs x) =
     unfold storeRan in
     reported-accepts (st .variables) (x .allowance)
-    (execute (st .cells) (st .used) (letterIndex (x .letter)) (x .allowance) (start (st .variables) (x .inputs) (x .output)))
+    (execute (st .cells) (st .used) (st .marks) (x .role) (letterIndex (x .letter)) (x .allowance) (start (st .variables) (x .inputs) (x .output)))
 
 pub refusal-keeps : RefusalKeeps
 unfolding storeCall
-refusal-keeps st c h = go (refusal (soundStore st) (standsAt (st .used)) c) h
+refusal-keeps st c h = go (refusal (soundStore st) (standsAt (st .used)) (letterMark (st .marks)) c) h
   where
     go : (o : Option Refusal) → isRefusal (answer o st (st .variables) c (storeAccepts st c) .reply .report .number) ≡ true
         → answer o st (st .variables) c (storeAccepts st c)
@@ -202,18 +208,18 @@ refusal-keeps st c h = go (refusal (soundStore st) (standsAt (st .used)) c) h
 
 -- ── a call by its refusal ───────────────────────────────────────────────────────────────────────
 
--- whether a store is sound, by its two tests
-pub sound-by : (st : Store) (s u : Bool) → s ≡ soundUsed (st .used) && lawful (st .variables) → s ≡ u → soundStore st ≡ u
+-- whether a store is sound, by its three tests
+pub sound-by : (st : Store) (s u : Bool) → s ≡ soundUsed (st .used) && soundMarks (st .marks) && lawful (st .variables) → s ≡ u → soundStore st ≡ u
 unfolding soundStore
 sound-by st s u e f = sym e ∙ f
 
 -- a call that a refusal fits tells its number and leaves the store
-pub call-refused : (st : Store) (c : Call) (r : Refusal) (n : ℕ) → n ≡ refusalNumber r → refusal (soundStore st) (standsAt (st .used)) c ≡ some r
+pub call-refused : (st : Store) (c : Call) (r : Refusal) (n : ℕ) → n ≡ refusalNumber r → refusal (soundStore st) (standsAt (st .used)) (letterMark (st .marks)) c ≡ some r
     → told st n c ≡ storeCall st c
 unfolding storeCall answer
 call-refused st c r n h e = rw (h, e)
 
 -- any other is accepted
-pub call-accepted : (st : Store) (c : Call) → refusal (soundStore st) (standsAt (st .used)) c ≡ none → storeAccepts st c ≡ storeCall st c
+pub call-accepted : (st : Store) (c : Call) → refusal (soundStore st) (standsAt (st .used)) (letterMark (st .marks)) c ≡ none → storeAccepts st c ≡ storeCall st c
 unfolding storeCall answer
 call-accepted st c e = rw e

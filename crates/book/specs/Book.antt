@@ -8,6 +8,7 @@ use lib.ListN.{getD, set, replicate}
 use Rattle.language.specs.declared.Ending.the-variants.{NoText}
 use Rattle.language.specs.Limits.{maxLetters, maxVariables}
 use Rattle.language.specs.Letters.{letterIndex}
+use Rattle.language.specs.Roles.{openMark, letterMark}
 use Rattle.language.specs.Syntax.{Expr}
 use Rattle.language.specs.Reading.{read, exprOf}
 use Rattle.language.specs.Effects.{start}
@@ -16,14 +17,17 @@ use Rattle.book.specs.Calls.{Run, Call, defines, withdraws, runs}
 use Rattle.book.specs.Replies.{Reply, Answered, leaves, reported, tells}
 use Rattle.book.specs.Refusals.{refusal, answer}
 
--- "It keeps at most one text for each letter, and ten variables." A text is kept as the expression that it is read to.
+-- "It keeps at most one text for each letter, and ten variables." A text is kept as the expression that it is read to. Document 02, U7: "the book keeps
+-- each mark beside its text".
 pub record Book : Type 0 where
   pub texts : List (Option Expr)
+  pub marks : List ℕ
   pub variables : List ℤ
 
--- "a fresh book has no text; the variables of both are 0"
+-- "a fresh book has no text; the variables of both are 0"; "a fresh store's marks are open"
 unfoldable pub freshBook : Book
-freshBook = record { texts = replicate maxLetters none; variables = replicate maxVariables (pos 0) }
+freshBook =
+    record { texts = replicate maxLetters none; marks = replicate maxLetters openMark; variables = replicate maxVariables (pos 0) }
 
 -- the text of letter a, if there is one: "To the book a cleared letter is one without a text."
 unfoldable pub textOf : List (Option Expr) → ℕ → Option Expr
@@ -34,35 +38,37 @@ abbrev pub isText : Option Expr → Bool
 isText none = false
 isText (some w) = true
 
--- the book with another text of letter a, or none
-unfoldable pub withText : Book → ℕ → Option Expr → Book
-withText b a x = record { texts = set (b .texts) a x; variables = b .variables }
+-- the book with another text of letter a, or none, and the mark k beside it
+unfoldable pub withText : Book → ℕ → Option Expr → ℕ → Book
+withText b a x k = record { texts = set (b .texts) a x; marks = set (b .marks) a k; variables = b .variables }
 
 -- the book with other variables
 unfoldable pub withVariables : Book → List ℤ → Book
-withVariables b v = record { texts = b .texts; variables = v }
+withVariables b v = record { texts = b .texts; marks = b .marks; variables = v }
 
--- "Any other run obeys its letter's text by the nested meaning, over the book's texts and variables." (A letter without a text is refused before.)
+-- "Any other run obeys its letter's text by the nested meaning, over the book's texts and variables", with its role and the book's marks. (A letter
+-- without a text is refused before.)
 unfoldable pub obeyed : Book → Run → Option Expr → Outcome
 unfolding meaning start textOf
 obeyed b x none = stopped NoText (start (b .variables) (x .inputs) (x .output)) (x .allowance)
 obeyed b x (some w) =
-    meaning (textOf (b .texts)) (suc (x .allowance)) (letterIndex (x .letter)) w 0 (start (b .variables) (x .inputs) (x .output)) (x .allowance)
+    meaning (textOf (b .texts)) (letterMark (b .marks)) (x .role) (suc (x .allowance)) (letterIndex (x .letter)) w 0
+    (start (b .variables) (x .inputs) (x .output)) (x .allowance)
 
 -- what a run answers
 unfoldable pub bookRan : Book → Run → Reply
 unfolding reported obeyed textOf
 bookRan b x = reported (b .variables) (x .allowance) (obeyed b x (textOf (b .texts) (letterIndex (x .letter))))
 
--- A call that is not refused. "Any other define is accepted: its text replaces its letter's, answer 0." "Any other withdraw is accepted: its
--- letter's text goes, answer 0." "If it finishes, the book keeps the variables it leaves."
+-- A call that is not refused. "Any other define is accepted: its text replaces its letter's, answer 0", with the mark "set by define". "Any other
+-- withdraw is accepted: its letter's text goes, answer 0." "Withdraw clears the mark to open." "If it finishes, the book keeps the variables it leaves."
 unfoldable pub bookAccepts : Book → Call → Answered Book
 unfolding tells withText withVariables bookRan read exprOf
-bookAccepts b (defines l t) = leaves (withText b (letterIndex l) (exprOf (read t))) (tells 0 (defines l t) (b .variables))
-bookAccepts b (withdraws l) = leaves (withText b (letterIndex l) none) (tells 0 (withdraws l) (b .variables))
+bookAccepts b (defines l k t) = leaves (withText b (letterIndex l) (exprOf (read t)) k) (tells 0 (defines l k t) (b .variables))
+bookAccepts b (withdraws l) = leaves (withText b (letterIndex l) none openMark) (tells 0 (withdraws l) (b .variables))
 bookAccepts b (runs x) = leaves (withVariables b (bookRan b x .variables)) (bookRan b x)
 
 -- any call
 unfoldable pub bookCall : Book → Call → Answered Book
 unfolding refusal answer bookAccepts textOf
-bookCall b c = answer (refusal true (λ a. isText (textOf (b .texts) a)) c) b (b .variables) c (bookAccepts b c)
+bookCall b c = answer (refusal true (λ a. isText (textOf (b .texts) a)) (letterMark (b .marks)) c) b (b .variables) c (bookAccepts b c)

@@ -1,4 +1,4 @@
--- Worked examples of calls, from the bytes of the texts on: lists of calls of book and store, and single calls of stores whose cells, counts or
+-- Worked examples of calls, from the bytes of the texts on: lists of calls of book and store, and single calls of stores whose cells, counts, marks or
 -- variables are damaged. Every figure is written out here and none is taken from a definition.
 use mathlib.Core.Path.{_≡_}
 use Prim.Native.Nat.{ℕ, zero, suc, _-_}
@@ -8,12 +8,13 @@ use mathlib.Core.Bool.{true, false}
 use mathlib.Core.List.{List, [], _∷_, _++_, map}
 use lib.IntN.{ℤ, pos}
 use lib.ListN.{length, take, replicate}
+use Rattle.language.specs.Roles.{letterMark}
 use Rattle.language.specs.Trials.{bytes, times, neg, zeros, fresh, Result, simply, ends, halts, took, keeps, wrote}
 use Rattle.book.specs.Calls.{Call, defines, withdraws, running}
 use Rattle.book.specs.Replies.{Reply}
-use Rattle.book.specs.Book.{freshBook}
+use Rattle.book.specs.Book.{freshBook, bookCall}
 use Rattle.book.specs.Store.{Store, storeOf, freshStore, entryAt, storeCall}
-use Rattle.book.specs.History.{storeAnswers, storeAfter, bookAnswers}
+use Rattle.book.specs.History.{after, storeAnswers, storeAfter, bookAnswers}
 
 -- ── calls ───────────────────────────────────────────────────────────────────────────────────────
 
@@ -21,25 +22,41 @@ use Rattle.book.specs.History.{storeAnswers, storeAfter, bookAnswers}
 abbrev sevens : ℕ → List ℤ
 sevens n = replicate n (pos 7)
 
--- define letter l as the text t
+-- define letter l as the text t, with the mark k
+abbrev D′ : Char → ℕ → String → Call
+D′ l k t = defines (code l) k (bytes t)
+
+-- the same as an open letter
 abbrev D : Char → String → Call
-D l t = defines (code l) (bytes t)
+D l t = D′ l 0 t
+
+-- the same as a steward's
+abbrev G : Char → String → Call
+G l t = D′ l 1 t
 
 -- withdraw letter l
 abbrev X : Char → Call
 X l = withdraws (code l)
 
--- run letter l with allowance n and inputs i, lending the list places p
+-- a caller with the role k runs letter l with allowance n and inputs i, lending the list places p
+abbrev R″ : ℕ → Char → ℕ → List ℤ → List ℤ → Call
+R″ k l n i p = running (code l) k n i p []
+
+-- the same by a cashier
 abbrev R′ : Char → ℕ → List ℤ → List ℤ → Call
-R′ l n i p = running (code l) n i p []
+R′ l n i p = R″ 0 l n i p
 
 -- the same lending 64 places
 abbrev R : Char → ℕ → List ℤ → Call
 R l n i = R′ l n i (sevens 64)
 
--- run letter l lending the output bytes o
+-- the same by a steward
+abbrev B : Char → ℕ → List ℤ → Call
+B l n i = R″ 1 l n i (sevens 64)
+
+-- a cashier runs letter l lending the output bytes o
 abbrev W : Char → String → Call
-W l o = running (code l) 1000 [] (sevens 64) (bytes o)
+W l o = running (code l) 0 1000 [] (sevens 64) (bytes o)
 
 -- an answer's number, truth, steps, values with the bottom first, inputs taken, variables, and written bytes
 abbrev pub resultOf : Reply → Result
@@ -117,9 +134,9 @@ sessions =
     -- "for define 2 and the text left to right", each after 1
     ∷ record {
       calls =
-          defines (code "1") (times 257 (bytes "#")) ∷ defines (code "a") (times 257 (bytes "#")) ∷ D "1" "#" ∷ D "a" "#"
-          ∷ D "a" "(((((((((((" ∷ D "a" "($0$)" ∷ D "a" "('/x')" ∷ D "a" "" ∷ defines (code "a") (bytes "(" ++ times 125 (bytes "N"))
-          ∷ defines (code "a") (bytes "(" ++ times 17 (bytes "$1$")) ∷ X "a" ∷ [];
+          defines (code "1") 0 (times 257 (bytes "#")) ∷ defines (code "a") 0 (times 257 (bytes "#")) ∷ D "1" "#" ∷ D "a" "#"
+          ∷ D "a" "(((((((((((" ∷ D "a" "($0$)" ∷ D "a" "('/x')" ∷ D "a" "" ∷ defines (code "a") 0 (bytes "(" ++ times 125 (bytes "N"))
+          ∷ defines (code "a") 0 (bytes "(" ++ times 17 (bytes "$1$")) ∷ X "a" ∷ [];
       results =
           plainly 1 ∷ plainly 2 ∷ plainly 1 ∷ plainly 3 ∷ plainly 4 ∷ plainly 5 ∷ plainly 6 ∷ plainly 7 ∷ plainly 8 ∷ plainly 9 ∷ plainly 10 ∷ [];
     }
@@ -142,6 +159,58 @@ sessions =
     ∷ record {
       calls = D "w" "(''ab'''cd';)" ∷ W "w" "xxxxx" ∷ W "w" "xxx" ∷ W "w" "x" ∷ W "v" "x" ∷ [];
       results = plainly 0 ∷ wrote "abcd" (ends true 3 []) ∷ wrote "ab" (halts 26 1 []) ∷ halts 26 0 [] ∷ plainly 10 ∷ [];
+    }
+    ∷ []
+
+-- document 02, U7: marks and roles
+abbrev pub roles : List Session
+roles =
+    -- 33, "a cashier runs a steward letter"; "the role is remembered nowhere afterwards"
+    record {
+      calls = G "s" "('/5';)" ∷ R "s" 9 [] ∷ B "s" 9 [] ∷ R "s" 9 [] ∷ D "o" "('/6';)" ∷ B "o" 9 [] ∷ R "o" 9 [] ∷ R "s" 9 [] ∷ [];
+      results =
+          plainly 0 ∷ plainly 33 ∷ ends true 2 (pos 5 ∷ []) ∷ plainly 33 ∷ plainly 0 ∷ ends true 2 (pos 6 ∷ [])
+          ∷ ends true 2 (pos 6 ∷ []) ∷ plainly 33 ∷ [];
+    }
+    -- "a mark, set by define": each accepted one sets it anew, a refused one leaves it
+    ∷ record {
+      calls =
+          D "s" "(;)" ∷ R "s" 9 [] ∷ G "s" "(;)" ∷ R "s" 9 [] ∷ D "s" "(" ∷ R "s" 9 [] ∷ D′ "s" 2 "(;)" ∷ R "s" 9 [] ∷ D "s" "(;)" ∷ R "s" 9 []
+          ∷ G "s" "#" ∷ R "s" 9 [] ∷ [];
+      results =
+          plainly 0 ∷ ends true 1 [] ∷ plainly 0 ∷ plainly 33 ∷ plainly 7 ∷ plainly 33 ∷ plainly 35 ∷ plainly 33 ∷ plainly 0 ∷ ends true 1 []
+          ∷ plainly 3 ∷ ends true 1 [] ∷ [];
+    }
+    -- a withdrawn letter: 10, for both; it is defined anew as any other
+    ∷ record {
+      calls = G "s" "(;)" ∷ X "s" ∷ R "s" 9 [] ∷ B "s" 9 [] ∷ X "s" ∷ D "s" "(;)" ∷ R "s" 9 [] ∷ [];
+      results = plainly 0 ∷ plainly 0 ∷ plainly 10 ∷ plainly 10 ∷ plainly 10 ∷ plainly 0 ∷ ends true 1 [] ∷ [];
+    }
+    -- 34, "a cashier's run calls one", from the letter's next define on, through however many letters; its variables are not kept
+    ∷ record {
+      calls =
+          D "a" "('/7'S1b;)" ∷ D "b" "(c;)" ∷ D "c" "('/1';)" ∷ R "a" 9 [] ∷ G "c" "('/2';)" ∷ R "a" 9 [] ∷ R "b" 9 [] ∷ B "b" 9 []
+          ∷ D "a" "('/8'S1b;)" ∷ R "a" 9 [] ∷ B "a" 9 [] ∷ X "c" ∷ R "b" 9 [] ∷ [];
+      results =
+          plainly 0 ∷ plainly 0 ∷ plainly 0 ∷ keeps (second 7) (ends true 8 (pos 7 ∷ pos 1 ∷ [])) ∷ keeps (second 7) (plainly 0)
+          ∷ keeps (second 7) (halts 34 3 (pos 7 ∷ [])) ∷ keeps (second 7) (halts 34 0 []) ∷ keeps (second 7) (ends true 4 (pos 2 ∷ []))
+          ∷ keeps (second 7) (plainly 0) ∷ keeps (second 7) (halts 34 3 (pos 8 ∷ [])) ∷ keeps (second 8) (ends true 8 (pos 8 ∷ pos 2 ∷ []))
+          ∷ keeps (second 8) (plainly 0) ∷ keeps (second 8) (halts 27 0 []) ∷ [];
+    }
+    -- "35 bad mark, a mark or role neither of the two, directly after 1": before 2 and a text's faults, before 10, 33, 11 and 12
+    ∷ record {
+      calls =
+          D′ "1" 2 "(;)" ∷ D′ "a" 2 "(;)" ∷ D′ "a" 255 "(;)" ∷ defines (code "a") 2 (times 257 (bytes "#")) ∷ D′ "a" 2 "#" ∷ R "a" 9 []
+          ∷ R″ 2 "1" 9 [] [] ∷ R″ 2 "a" 9 [] (sevens 64) ∷ G "a" "(;)" ∷ R″ 2 "a" 9 (pos 1000000000 ∷ []) [] ∷ R″ 255 "a" 9 [] (sevens 64) ∷ [];
+      results =
+          plainly 1 ∷ plainly 35 ∷ plainly 35 ∷ plainly 35 ∷ plainly 35 ∷ plainly 10 ∷ plainly 1 ∷ plainly 35 ∷ plainly 0 ∷ plainly 35 ∷ plainly 35 ∷ [];
+    }
+    -- 33 "directly after 10": after 1 and 10, before 11 and 12
+    ∷ record {
+      calls =
+          G "a" "(;)" ∷ R′ "`" 9 [] [] ∷ R′ "b" 9 [] [] ∷ R′ "a" 9 (pos 1000000000 ∷ []) (sevens 64) ∷ R′ "a" 9 [] [] ∷ R″ 1 "a" 9 (pos 1000000000 ∷ []) []
+          ∷ R″ 1 "a" 9 [] [] ∷ B "a" 9 [] ∷ [];
+      results = plainly 0 ∷ plainly 1 ∷ plainly 10 ∷ plainly 33 ∷ plainly 33 ∷ plainly 11 ∷ plainly 12 ∷ ends true 1 [] ∷ [];
     }
     ∷ []
 
@@ -170,7 +239,7 @@ HoldLent xs = map leaving xs ≡ map dueLeft xs
 
 -- a run of `w` that lends these list places and three bytes
 abbrev wRun : List ℤ → Call
-wRun p = running (code "w") 9 [] p (bytes "xyz")
+wRun p = running (code "w") 0 9 [] p (bytes "xyz")
 
 -- "places above the height are 0; output past its length is unchanged"; a refusal leaves "any list and output, as they were"
 abbrev pub lendings : List Lending
@@ -181,43 +250,56 @@ lendings =
           ([], []) ∷ (pos 11 ∷ zeros 63, bytes "abz") ∷ ([], []) ∷ (pos 5 ∷ zeros 63, bytes "abz") ∷ (sevens 2, bytes "xyz")
           ∷ ([], []) ∷ (sevens 64, bytes "xyz") ∷ [];
     }
+    -- 33 and 35 refuse; 34 ends a run
+    ∷ record {
+      calls = G "w" "('/5';)" ∷ wRun (sevens 64) ∷ running (code "w") 2 9 [] (sevens 64) (bytes "xyz") ∷ G "v" "()" ∷ D "w" "('/5'''ab'v;)" ∷ wRun (sevens 64) ∷ [];
+      left = ([], []) ∷ (sevens 64, bytes "xyz") ∷ (sevens 64, bytes "xyz") ∷ ([], []) ∷ ([], []) ∷ (pos 5 ∷ zeros 63, bytes "abz") ∷ [];
+    }
     ∷ []
 
 -- ── what a store keeps ──────────────────────────────────────────────────────────────────────────
 
--- calls from the fresh store, and the used cells of a letter after them, a as 0; a cleared letter has none
+-- calls from the fresh store, and the mark and the used cells of a letter after them, a as 0; a cleared letter has none
 pub record Keeping : Type 0 where
   pub calls : List Call
   pub letter : ℕ
+  pub mark : ℕ
   pub cells : List ℤ
 
--- how many cells, counts and variables a store has, and of a letter its count and cells
+-- how many cells, counts, marks and variables a store has
 abbrev pub sizes : Store → List ℕ
-sizes st = length (st .cells) ∷ length (st .used) ∷ length (st .variables) ∷ []
+sizes st = length (st .cells) ∷ length (st .used) ∷ length (st .marks) ∷ length (st .variables) ∷ []
 
--- what the store keeps
-abbrev pub keptIn : Store → ℕ → List ℕ × ℕ × List ℤ
-keptIn st a = (sizes st, entryAt st a .table .used, entryAt st a .table .cells)
+-- what the store keeps of a letter: its count, its mark and its cells
+abbrev pub keptIn : Store → ℕ → List ℕ × ℕ × ℕ × List ℤ
+keptIn st a = (sizes st, entryAt st a .table .used, entryAt st a .mark, entryAt st a .table .cells)
 
--- what calls leave
-abbrev pub kept : Keeping → List ℕ × ℕ × List ℤ
-kept x = keptIn (storeAfter freshStore (x .calls)) (x .letter)
+-- what calls leave in the store, and which mark in the book
+abbrev pub kept : Keeping → (List ℕ × ℕ × ℕ × List ℤ) × ℕ
+kept x = (keptIn (storeAfter freshStore (x .calls)) (x .letter), letterMark (after bookCall freshBook (x .calls) .marks) (x .letter))
 
--- what they should leave: "26 letters' tables with their used-cell counts, and ten variables", each table of 250 cells
-abbrev pub dueKept : Keeping → List ℕ × ℕ × List ℤ
-dueKept x = (6500 ∷ 26 ∷ 10 ∷ [], length (x .cells), x .cells ++ zeros (250 - length (x .cells)))
+-- what they should leave: "26 letters' tables with their used-cell counts, and ten variables", each table of 250 cells, and 26 marks
+abbrev pub dueKept : Keeping → (List ℕ × ℕ × ℕ × List ℤ) × ℕ
+dueKept x = ((6500 ∷ 26 ∷ 26 ∷ 10 ∷ [], length (x .cells), x .mark, x .cells ++ zeros (250 - length (x .cells))), x .mark)
 
 -- every list of calls leaves what it should
 abbrev pub HoldKept : List Keeping → Type 0
 HoldKept xs = map kept xs ≡ map dueKept xs
 
--- "Define replaces a letter's table. Withdraw clears it to 0. The used-cell count is replaced or cleared with the table"
+-- "Define replaces a letter's table. Withdraw clears it to 0. The used-cell count is replaced or cleared with the table"; document 02, U7: "a mark, set
+-- by define", "a fresh store's marks are open", "Withdraw clears the mark to open."
 abbrev pub keepings : List Keeping
 keepings =
-    record { calls = []; letter = 25; cells = [] }
-    ∷ record { calls = D "z" "(A;)" ∷ D "z" "(;)" ∷ R "z" 9 [] ∷ []; letter = 25; cells = pos 2000 ∷ pos 4 ∷ pos 0 ∷ pos 1 ∷ [] }
-    ∷ record { calls = D "z" "(;)" ∷ D "y" "()" ∷ D "z" "(" ∷ []; letter = 24; cells = pos 2000 ∷ pos 0 ∷ pos 1 ∷ [] }
-    ∷ record { calls = D "a" "(;)" ∷ X "a" ∷ []; letter = 0; cells = [] }
+    record { calls = []; letter = 25; mark = 0; cells = [] }
+    ∷ record { calls = D "z" "(A;)" ∷ D "z" "(;)" ∷ R "z" 9 [] ∷ []; letter = 25; mark = 0; cells = pos 2000 ∷ pos 4 ∷ pos 0 ∷ pos 1 ∷ [] }
+    ∷ record { calls = D "z" "(;)" ∷ D "y" "()" ∷ D "z" "(" ∷ []; letter = 24; mark = 0; cells = pos 2000 ∷ pos 0 ∷ pos 1 ∷ [] }
+    ∷ record { calls = D "a" "(;)" ∷ X "a" ∷ []; letter = 0; mark = 0; cells = [] }
+    ∷ record { calls = G "z" "()" ∷ []; letter = 25; mark = 1; cells = pos 2000 ∷ pos 0 ∷ pos 1 ∷ [] }
+    ∷ record { calls = G "a" "()" ∷ D "b" "(;)" ∷ X "b" ∷ R "a" 9 [] ∷ B "a" 9 [] ∷ D "a" "(" ∷ []; letter = 0; mark = 1; cells = pos 2000 ∷ pos 0 ∷ pos 1 ∷ [] }
+    ∷ record { calls = G "a" "(;)" ∷ D "a" "()" ∷ G "b" "()" ∷ []; letter = 0; mark = 0; cells = pos 2000 ∷ pos 0 ∷ pos 1 ∷ [] }
+    ∷ record { calls = D "a" "(;)" ∷ G "a" "()" ∷ D "b" "()" ∷ []; letter = 0; mark = 1; cells = pos 2000 ∷ pos 0 ∷ pos 1 ∷ [] }
+    ∷ record { calls = G "a" "(;)" ∷ X "a" ∷ []; letter = 0; mark = 0; cells = [] }
+    ∷ record { calls = G "a" "(;)" ∷ G "b" "(;)" ∷ X "a" ∷ []; letter = 1; mark = 1; cells = pos 2000 ∷ pos 4 ∷ pos 0 ∷ pos 1 ∷ [] }
     ∷ []
 
 -- ── damaged stores ──────────────────────────────────────────────────────────────────────────────
@@ -243,15 +325,19 @@ HoldFound xs = map found xs ≡ map dueFound xs
 
 -- the store whose letter a has these cells after its first, all used
 abbrev holding : List ℤ → Store
-holding c = storeOf (pos 2000 ∷ c) (suc (length c) ∷ []) fresh
+holding c = storeOf (pos 2000 ∷ c) (suc (length c) ∷ []) [] fresh
 
--- the store whose letters a and b have these cells after their first, all used
+-- the store whose letters a and b have these cells after their first; of b's n are used, and its mark is k
+abbrev marked : List ℤ → List ℤ → ℕ → ℕ → Store
+marked c d n k = storeOf (pos 2000 ∷ c ++ zeros (249 - length c) ++ pos 2000 ∷ d) (suc (length c) ∷ n ∷ []) (0 ∷ k ∷ []) fresh
+
+-- both open, and all cells used
 abbrev pair : List ℤ → List ℤ → Store
-pair c d = storeOf (pos 2000 ∷ c ++ zeros (249 - length c) ++ pos 2000 ∷ d) (suc (length c) ∷ suc (length d) ∷ []) fresh
+pair c d = marked c d (suc (length d)) 0
 
 -- a run of letter l of a store with an allowance, and room for 9 bytes
 abbrev probe : Store → Char → ℕ → ℕ → ℕ → Probe
-probe st l a k n = record { store = st; call = running (code l) a [] (sevens 64) (replicate 9 0); number = k; steps = n }
+probe st l a k n = record { store = st; call = running (code l) 0 a [] (sevens 64) (replicate 9 0); number = k; steps = n }
 
 -- a run of letter a over such cells with allowance 9
 abbrev over : List ℤ → ℕ → ℕ → Probe
@@ -360,7 +446,7 @@ damaged =
     ∷ over (neg 167 ∷ pos 1 ∷ pos 127 ∷ tail) 29 0
     ∷ over (neg 167 ∷ pos 2 ∷ pos 97 ∷ pos 10 ∷ tail) 29 0
     -- "Cell 1 holds 2000 and no run reads it."
-    ∷ probe (storeOf (pos 0 ∷ pos 4 ∷ tail) (4 ∷ []) fresh) "a" 9 0 1
+    ∷ probe (storeOf (pos 0 ∷ pos 4 ∷ tail) (4 ∷ []) [] fresh) "a" 9 0 1
     -- a table of 250 cells
     ∷ over (pos 250 ∷ zeros 247 ++ pos 1 ∷ []) 0 1
     ∷ over (pos 250 ∷ zeros 247 ++ pos 2 ∷ []) 29 1
@@ -377,11 +463,28 @@ damaged =
     ∷ probe (pair (neg 98 ∷ pos 5 ∷ tail) (pos 4 ∷ tail)) "a" 9 0 3
     ∷ probe (pair (neg 98 ∷ pos 5 ∷ tail) tail) "a" 9 0 2
     ∷ probe (pair (pos 1 ∷ tail) (pos 4 ∷ tail)) "b" 9 0 1
+    -- the call of a steward's letter: after 29, 20 and 27; of a cleared letter with a steward's mark
+    ∷ probe (marked (neg 98 ∷ pos 5 ∷ tail) (pos 4 ∷ tail) 4 1) "a" 9 34 0
+    ∷ probe (marked (neg 98 ∷ pos 6 ∷ tail) (pos 4 ∷ tail) 4 1) "a" 9 29 0
+    ∷ probe (marked (neg 98 ∷ pos 5 ∷ tail) (pos 4 ∷ tail) 4 1) "a" 0 20 0
+    ∷ probe (marked (neg 98 ∷ pos 5 ∷ tail) (pos 4 ∷ tail) 0 1) "a" 9 27 0
+    -- its run: after 10; a damaged table is not looked at
+    ∷ probe (marked (neg 98 ∷ pos 5 ∷ tail) (pos 4 ∷ tail) 0 1) "b" 9 10 0
+    ∷ probe (marked (neg 98 ∷ pos 5 ∷ tail) (pos 0 ∷ tail) 4 1) "b" 9 33 0
     ∷ []
 
--- the store whose letters a and z have these counts and whose letter b stands as `()`, with these variables first and last
+-- the store whose letter b stands as `()`, with these counts, marks and variables first and last
+abbrev holdingAt : ℕ → ℕ → ℕ → ℕ → ℤ → ℤ → Store
+holdingAt a z k m v w =
+    storeOf (zeros 250 ++ pos 2000 ∷ tail) (a ∷ 3 ∷ replicate 23 0 ++ z ∷ []) (k ∷ replicate 24 0 ++ m ∷ []) (v ∷ zeros 8 ++ w ∷ [])
+
+-- with every letter open
 abbrev counting : ℕ → ℕ → ℤ → ℤ → Store
-counting a z v w = storeOf (zeros 250 ++ pos 2000 ∷ tail) (a ∷ 3 ∷ replicate 23 0 ++ z ∷ []) (v ∷ zeros 8 ++ w ∷ [])
+counting a z v w = holdingAt a z 0 0 v w
+
+-- with these marks, first and last
+abbrev marking : ℕ → ℕ → Store
+marking k m = holdingAt 0 0 k m (pos 0) (pos 0)
 
 -- a call of a store, with the number and the steps of its answer
 abbrev asking : Store → Call → ℕ → ℕ → Probe
@@ -391,14 +494,16 @@ asking st c k n = record { store = st; call = c; number = k; steps = n }
 abbrev sound : Store → List Probe
 sound st = asking st (D "b" "(;)") 0 0 ∷ asking st (X "b") 0 0 ∷ asking st (R "b" 9 []) 0 1 ∷ []
 
--- they are refused as 13, and so are others that 1, 2, 10, 11 and 12 fit
+-- they are refused as 13, and so are others that 1, 2, 10, 11, 12 and 35 fit
 abbrev bad : Store → List Probe
 bad st =
     asking st (D "b" "(;)") 13 0 ∷ asking st (X "b") 13 0 ∷ asking st (R "b" 9 []) 13 0
     ∷ asking st (D "1" "#") 13 0 ∷ asking st (X "1") 13 0 ∷ asking st (R′ "1" 9 [] []) 13 0
-    ∷ asking st (defines (code "b") (times 257 (bytes "#"))) 13 0 ∷ asking st (X "c") 13 0 ∷ asking st (R′ "b" 9 (pos 1000000000 ∷ []) []) 13 0 ∷ []
+    ∷ asking st (defines (code "b") 0 (times 257 (bytes "#"))) 13 0 ∷ asking st (X "c") 13 0 ∷ asking st (R′ "b" 9 (pos 1000000000 ∷ []) []) 13 0
+    ∷ asking st (D′ "b" 2 "(;)") 13 0 ∷ asking st (R″ 2 "b" 9 [] (sevens 64)) 13 0 ∷ asking st (B "b" 9 []) 13 0 ∷ []
 
--- 13, "a used count neither 0 nor 3 to 250, or a variable outside the values", in the first and the last letter and variable
+-- 13, "a used count neither 0 nor 3 to 250, or a variable outside the values", in the first and the last letter and variable; document 02, U7: "The
+-- bad-store test covers a mark with any other value."
 abbrev pub spoilt : List Probe
 spoilt =
     sound (counting 0 0 (pos 0) (pos 0))
@@ -416,3 +521,9 @@ spoilt =
     ++ bad (counting 0 0 (neg 1000000000) (pos 0))
     ++ bad (counting 0 0 (pos 0) (pos 1000000000))
     ++ bad (counting 0 0 (pos 0) (neg 1000000000))
+    ++ sound (marking 1 0)
+    ++ sound (marking 0 1)
+    ++ bad (marking 2 0)
+    ++ bad (marking 0 2)
+    ++ bad (marking 255 1)
+    ++ bad (marking 1 256)

@@ -4,6 +4,7 @@ use mathlib.Core.Bool.{cond, _&&_}
 use mathlib.Core.Option.{Option, none, some}
 use mathlib.Core.List.{List, [], _∷_}
 use lib.Dec.{eqb}
+use Rattle.language.specs.Roles.{openMark}
 use Rattle.language.specs.Syntax.{Expr}
 use Rattle.language.specs.Reading.{read, exprOf}
 use Rattle.book.specs.Calls.{Call, defines, withdraws, runs}
@@ -35,24 +36,34 @@ bookAnswers b cs = answers bookCall b cs
 
 -- ── what stands ─────────────────────────────────────────────────────────────────────────────────
 
+-- a text that stands, with the mark that its define gave its letter
+pub record Standing : Type 0 where
+  pub mark : ℕ
+  pub text : List ℕ
+
 -- A text stands from its accepted define to the next accepted define or withdraw of its letter. Accepted is answered 0. After a call and its
 -- answer, what stands of letter l where x stood before:
-abbrev pub standsAfter : ℕ → Option (List ℕ) → Call → Reply → Option (List ℕ)
-standsAfter l x (defines m t) r = cond (eqb m l && eqb (r .report .number) 0) (some t) x
+abbrev pub standsAfter : ℕ → Option Standing → Call → Reply → Option Standing
+standsAfter l x (defines m k t) r = cond (eqb m l && eqb (r .report .number) 0) (some (record { mark = k; text = t })) x
 standsAfter l x (withdraws m) r = cond (eqb m l && eqb (r .report .number) 0) none x
 standsAfter l x (runs y) r = x
 
 -- after a list of calls and their answers
-abbrev pub standingFrom : Option (List ℕ) → List Call → List Reply → ℕ → Option (List ℕ)
+abbrev pub standingFrom : Option Standing → List Call → List Reply → ℕ → Option Standing
 standingFrom x [] rs l = x
 standingFrom x (c ∷ cs) [] l = x
 standingFrom x (c ∷ cs) (r ∷ rs) l = standingFrom (standsAfter l x c r) cs rs l
 
 -- the text of letter l that stands after these calls and their answers, if one does
-abbrev pub standing : List Call → List Reply → ℕ → Option (List ℕ)
+abbrev pub standing : List Call → List Reply → ℕ → Option Standing
 standing cs rs l = standingFrom none cs rs l
 
 -- a text's expression, if one stands and is accepted
-abbrev pub readText : Option (List ℕ) → Option Expr
+abbrev pub readText : Option Standing → Option Expr
 readText none = none
-readText (some t) = exprOf (read t)
+readText (some x) = exprOf (read (x .text))
+
+-- the mark that a text stands with; a letter without a text is open
+abbrev pub markOf : Option Standing → ℕ
+markOf none = openMark
+markOf (some x) = x .mark

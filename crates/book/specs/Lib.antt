@@ -2,6 +2,7 @@ pub mod Calls
 pub mod Replies
 pub mod Refusals
 pub mod Book
+pub mod Before
 pub mod Store
 pub mod History
 pub mod Examples

@@ -1,17 +1,18 @@
 -- Which refusal a call meets: the tests in their order, one list for the store and the book.
 use Prim.Native.Nat.{ℕ}
-use mathlib.Core.Bool.{Bool, true, false}
+use mathlib.Core.Bool.{Bool, true, false, not}
 use mathlib.Core.Option.{Option, none, some}
 use mathlib.Core.List.{List, [], _∷_}
 use lib.IntN.{ℤ}
 use lib.ListN.{length}
 use lib.Dec.{eqb}
 use Rattle.language.specs.declared.Refusal.{Refusal}
-use Rattle.language.specs.declared.Refusal.the-variants.{NoSuchLetter, NotStanding, BadInput, BadList, BadStore}
+use Rattle.language.specs.declared.Refusal.the-variants.{NoSuchLetter, NotStanding, BadInput, BadList, BadStore, NotForCashiers, BadMark}
 use Rattle.language.specs.Answers.{refusalNumber}
 use Rattle.language.specs.Limits.{maxHeight}
 use Rattle.language.specs.Letters.{isLetter, letterIndex}
 use Rattle.language.specs.Values.{lawful}
+use Rattle.language.specs.Roles.{isMark, isRole, bars}
 use Rattle.language.specs.Reading.{Reading, refused, accepted, read}
 use Rattle.book.specs.Calls.{Call, defines, withdraws, runs}
 use Rattle.book.specs.Replies.{Answered, leaves, tells}
@@ -32,14 +33,18 @@ first [] = none
 first (none ∷ l) = first l
 first (some r ∷ l) = some r
 
--- Of a store that is sound or not, where these letters stand, a as 0. (To the book the store is always sound: "13 never fits here".)
-module _ (sound : Bool) (stands : ℕ → Bool) where
-  -- "Order: 13, 1, then for define 2 and the text left to right; for withdraw 10; for run 10, 11, 12."
+-- Of a store that is sound or not, where these letters stand and have these marks, a as 0. (To the book the store is always sound: "13 never fits
+-- here".)
+module _ (sound : Bool) (stands : ℕ → Bool) (marks : ℕ → ℕ) where
+  -- "Order: 13, 1, then for define 2 and the text left to right; for withdraw 10; for run 10, 11, 12." Document 02, U7: "33 not for cashiers, a cashier
+  -- runs a steward letter, directly after 10", "35 bad mark, a mark or role neither of the two, directly after 1".
   unfoldable pub tests : Call → List (Option Refusal)
-  tests (defines l t) = unless sound BadStore ∷ unless (isLetter l) NoSuchLetter ∷ faultOf (read t) ∷ []
+  unfolding isMark isRole bars
+  tests (defines l k t) = unless sound BadStore ∷ unless (isLetter l) NoSuchLetter ∷ unless (isMark k) BadMark ∷ faultOf (read t) ∷ []
   tests (withdraws l) = unless sound BadStore ∷ unless (isLetter l) NoSuchLetter ∷ unless (stands (letterIndex l)) NotStanding ∷ []
   tests (runs x) =
-      unless sound BadStore ∷ unless (isLetter (x .letter)) NoSuchLetter ∷ unless (stands (letterIndex (x .letter))) NotStanding
+      unless sound BadStore ∷ unless (isLetter (x .letter)) NoSuchLetter ∷ unless (isRole (x .role)) BadMark
+      ∷ unless (stands (letterIndex (x .letter))) NotStanding ∷ unless (not (bars (x .role) (marks (letterIndex (x .letter))))) NotForCashiers
       ∷ unless (lawful (x .inputs)) BadInput ∷ unless (eqb (length (x .list)) maxHeight) BadList ∷ []
 
   -- the refusal that a call meets, if one fits

@@ -3,20 +3,22 @@ use mathlib.Core.Path.{_≡_}
 use Prim.Native.Nat.{ℕ, suc, _<_}
 use mathlib.Core.Bool.{Bool, true, false}
 use mathlib.Core.Option.{Option, none, some}
-use mathlib.Core.List.{List, [], _∷_}
+use mathlib.Core.List.{List, [], _∷_, map}
 use lib.ListN.{length}
 use Rattle.language.specs.Answers.{isRefusal}
 use Rattle.language.specs.Limits.{maxCells, maxHeight, maxLetters, storeCells}
 use Rattle.language.specs.Letters.{isLetter, letterIndex, letterByte}
 use Rattle.language.specs.Values.{lawful}
+use Rattle.language.specs.Roles.{openMark, cashierRole, isRole, bars}
 use Rattle.language.specs.Syntax.{Expr}
 use Rattle.language.specs.Effects.{start}
 use Rattle.language.specs.Meaning.{meaning}
-use Rattle.book.specs.Calls.{Run, Call, runs, lentList, lentOutput}
+use Rattle.book.specs.Calls.{Run, Call, defines, withdraws, runs, running, lentList, lentOutput}
 use Rattle.book.specs.Replies.{Reply, leaves, reported}
+use Rattle.book.specs.Before as Before
 use Rattle.book.specs.Book.{freshBook}
 use Rattle.book.specs.Store.{Store, freshStore, Entry, entryAt, withEntry, storeCall}
-use Rattle.book.specs.History.{storeAnswers, storeAfter, bookAnswers, standing, readText}
+use Rattle.book.specs.History.{storeAnswers, storeAfter, bookAnswers, Standing, standing, readText, markOf}
 
 -- ── any store ───────────────────────────────────────────────────────────────────────────────────
 
@@ -37,6 +39,7 @@ RefusalKeeps =
 pub record Spacious (st : Store) : Type 0 where
   pub cells : length (st .cells) ≡ storeCells
   pub used : length (st .used) ≡ maxLetters
+  pub marks : length (st .marks) ≡ maxLetters
 
 -- a table that fills its letter's 250 cells
 abbrev pub Full : Entry → Type 0
@@ -73,9 +76,10 @@ Never n (r ∷ rs) = (r .report .number ≡ n → ⊥) × Never n rs
 abbrev pub NeverDamaged : Type 0
 NeverDamaged = (cs : List Call) → Never 13 (storeAnswers freshStore cs) × Never 29 (storeAnswers freshStore cs)
 
--- a run of a letter a to z, with 64 places and lawful inputs
+-- "a run of a letter a to z with 64 list places, lawful inputs and one of the two roles"
 pub record Admissible (x : Run) : Type 0 where
   pub letter : isLetter (x .letter) ≡ true
+  pub role : isRole (x .role) ≡ true
   pub inputs : lawful (x .inputs) ≡ true
   pub places : length (x .list) ≡ maxHeight
 
@@ -83,26 +87,44 @@ pub record Admissible (x : Run) : Type 0 where
 abbrev pub runAfter : List Call → Run → Reply
 runAfter cs x = storeCall (storeAfter freshStore cs) (runs x) .reply
 
--- no text stands
-abbrev pub isNone : Option (List ℕ) → Bool
-isNone none = true
-isNone (some t) = false
+-- what stands of its letter refuses a run by a caller with the role r: 10, no text does; or 33, one does that is not for the caller
+abbrev pub refuses : ℕ → Option Standing → Bool
+refuses r none = true
+refuses r (some y) = bars r (y .mark)
 
--- Such a run is refused exactly when no text of its letter stands. proofs/HistoryStanding `refused-exactly`
+-- Such a run "is refused exactly when 10 or 33 fits". proofs/HistoryStanding `refused-exactly`
 abbrev pub RefusedExactly : Type 0
 RefusedExactly =
     (cs : List Call) (x : Run) → Admissible x
-    → isRefusal (runAfter cs x .report .number) ≡ isNone (standing cs (storeAnswers freshStore cs) (x .letter))
+    → isRefusal (runAfter cs x .report .number) ≡ refuses (x .role) (standing cs (storeAnswers freshStore cs) (x .letter))
 
 -- the expressions that stand, by the index of their letter
 abbrev pub standingTexts : List Call → ℕ → Option Expr
 standingTexts cs a = readText (standing cs (storeAnswers freshStore cs) (letterByte a))
 
--- Otherwise it gives what the nested meaning gives over the texts then standing. proofs/HistoryStanding `obeys-standing`
+-- and their marks
+abbrev pub standingMarks : List Call → ℕ → ℕ
+standingMarks cs a = markOf (standing cs (storeAnswers freshStore cs) (letterByte a))
+
+-- Otherwise it gives what the nested meaning gives over the texts then standing, with their marks and its role. proofs/HistoryStanding `obeys-standing`
 abbrev pub ObeysStanding : Type 0
 ObeysStanding =
     (cs : List Call) (x : Run) (w : Expr) → Admissible x → standingTexts cs (letterIndex (x .letter)) ≡ some w
+    → bars (x .role) (standingMarks cs (letterIndex (x .letter))) ≡ false
     → let v = storeAfter freshStore cs .variables in
     runAfter cs x
     ≡ reported v (x .allowance)
-    (meaning (standingTexts cs) (suc (x .allowance)) (letterIndex (x .letter)) w 0 (start v (x .inputs) (x .output)) (x .allowance))
+    (meaning (standingTexts cs) (standingMarks cs) (x .role) (suc (x .allowance)) (letterIndex (x .letter)) w 0
+    (start v (x .inputs) (x .output)) (x .allowance))
+
+-- ── open letters, run by cashiers ───────────────────────────────────────────────────────────────
+
+-- a call as it was before marks and roles, asked for now: an open letter, a cashier's run
+abbrev pub openly : Before.Call → Call
+openly (Before.defines l t) = defines l openMark t
+openly (Before.withdraws l) = withdraws l
+openly (Before.runs x) = running (x .letter) cashierRole (x .allowance) (x .inputs) (x .list) (x .output)
+
+-- A history of open letters run by cashiers gives what it gave before document 02, U7. proofs/Before `open-history`
+abbrev pub OpenHistory : Type 0
+OpenHistory = (cs : List Before.Call) → storeAnswers freshStore (map openly cs) ≡ Before.bookAnswers Before.freshBook cs

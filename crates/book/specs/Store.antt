@@ -1,7 +1,7 @@
 -- The store, and what a call does to any store: the right-hand sides of the engine's contracts.
 use Prim.Native.Nat.{ℕ, _*_}
 use mathlib.Core.Bool.{Bool, _&&_}
-use mathlib.Core.Option.{Option, none, some}
+use mathlib.Core.Option.{Option, none}
 use mathlib.Core.List.{List}
 use lib.IntN.{ℤ, pos}
 use lib.ListN.{set, replicate}
@@ -12,42 +12,52 @@ use Rattle.language.specs.Letters.{letterIndex}
 use Rattle.language.specs.Values.{lawful}
 use Rattle.language.specs.Syntax.{Expr}
 use Rattle.language.specs.Reading.{read, exprOf}
-use Rattle.language.specs.Layout.{layout, cleared}
+use Rattle.language.specs.Layout.{tableOf}
 use Rattle.language.specs.Effects.{start}
-use Rattle.language.specs.Tables.{tableAt, standsAt, execute, soundUsed}
+use Rattle.language.specs.Roles.{openMark, letterMark}
+use Rattle.language.specs.Tables.{tableAt, standsAt, execute, soundUsed, soundMarks}
 use Rattle.book.specs.Calls.{Run, Call, defines, withdraws, runs}
 use Rattle.book.specs.declared.Report.{Report}
 use Rattle.book.specs.Replies.{Reply, Answered, leaves, replied, reported, tells}
 use Rattle.book.specs.Refusals.{refusal, answer}
 
--- "A store holds 26 letters' tables with their used-cell counts, and ten variables": the cells of letter a are those from 250 a on
+-- "A store holds 26 letters' tables with their used-cell counts, and ten variables": the cells of letter a are those from 250 a on. Document 02, U7:
+-- "Each letter's entry in the store gains a mark".
 pub record Store : Type 0 where
   pub cells : List ℤ
   pub used : List ℕ
+  pub marks : List ℕ
   pub variables : List ℤ
 
 -- the store of these lists
-abbrev pub storeOf : List ℤ → List ℕ → List ℤ → Store
-storeOf c u v = record { cells = c; used = u; variables = v }
+abbrev pub storeOf : List ℤ → List ℕ → List ℕ → List ℤ → Store
+storeOf c u k v = record { cells = c; used = u; marks = k; variables = v }
 
--- "A fresh store has every letter cleared", "ten variables, 0 when fresh"
+-- "A fresh store has every letter cleared", "ten variables, 0 when fresh"; "a fresh store's marks are open"
 unfoldable pub freshStore : Store
-freshStore = record { cells = replicate storeCells (pos 0); used = replicate maxLetters 0; variables = replicate maxVariables (pos 0) }
+freshStore =
+    record {
+      cells = replicate storeCells (pos 0);
+      used = replicate maxLetters 0;
+      marks = replicate maxLetters openMark;
+      variables = replicate maxVariables (pos 0);
+    }
 
--- "bad store: a used count neither 0 nor 3 to 250, or a variable outside the values"
+-- "bad store: a used count neither 0 nor 3 to 250, or a variable outside the values"; "The bad-store test covers a mark with any other value."
 unfoldable pub soundStore : Store → Bool
-unfolding soundUsed lawful
-soundStore st = soundUsed (st .used) && lawful (st .variables)
+unfolding soundUsed soundMarks lawful
+soundStore st = soundUsed (st .used) && soundMarks (st .marks) && lawful (st .variables)
 
 -- ── one letter's entry ──────────────────────────────────────────────────────────────────────────
 
--- What a store holds of one letter: its code table with its used-cell count.
+-- What a store holds of one letter: its code table with its used-cell count, and its mark.
 pub record Entry : Type 0 where
   pub table : Table
+  pub mark : ℕ
 
 -- the entry of letter a
 abbrev pub entryAt : Store → ℕ → Entry
-entryAt st a = record { table = tableAt (st .cells) (st .used) a }
+entryAt st a = record { table = tableAt (st .cells) (st .used) a; mark = letterMark (st .marks) a }
 
 -- the store with another entry of letter a: "The used-cell count is replaced or cleared with the table"
 unfoldable pub withEntry : Store → ℕ → Entry → Store
@@ -55,38 +65,39 @@ withEntry st a e =
     record {
       cells = paste (st .cells) (a * maxCells) (e .table .cells) maxCells;
       used = set (st .used) a (e .table .used);
+      marks = set (st .marks) a (e .mark);
       variables = st .variables;
     }
 
--- the entry of a text, or of a cleared letter
-abbrev pub entryOf : Option Expr → Entry
-entryOf none = record { table = cleared }
-entryOf (some w) = record { table = layout w }
+-- the entry of a text, or of a cleared letter, with the mark k
+abbrev pub entryOf : Option Expr → ℕ → Entry
+entryOf x k = record { table = tableOf x; mark = k }
 
 -- the store with other variables: "No run changes a table."
 unfoldable pub withVariables : Store → List ℤ → Store
-withVariables st v = record { cells = st .cells; used = st .used; variables = v }
+withVariables st v = record { cells = st .cells; used = st .used; marks = st .marks; variables = v }
 
 -- ── calls ───────────────────────────────────────────────────────────────────────────────────────
 
--- what a run of a letter that stands answers
+-- what a run of a letter that stands answers: "Each run states the caller's role ..", ".. and the role is remembered nowhere afterwards"
 unfoldable pub storeRan : Store → Run → Reply
 unfolding reported execute start
 storeRan st x =
     reported (st .variables) (x .allowance)
-    (execute (st .cells) (st .used) (letterIndex (x .letter)) (x .allowance) (start (st .variables) (x .inputs) (x .output)))
+    (execute (st .cells) (st .used) (st .marks) (x .role) (letterIndex (x .letter)) (x .allowance) (start (st .variables) (x .inputs) (x .output)))
 
--- A call that is not refused. "Define replaces a letter's table. Withdraw clears it to 0." A run may change the variables.
+-- A call that is not refused. "Define replaces a letter's table. Withdraw clears it to 0." The mark is "set by define", and "Withdraw clears the mark to
+-- open." A run may change the variables.
 unfoldable pub storeAccepts : Store → Call → Answered Store
 unfolding tells withEntry withVariables storeRan read exprOf
-storeAccepts st (defines l t) = leaves (withEntry st (letterIndex l) (entryOf (exprOf (read t)))) (tells 0 (defines l t) (st .variables))
-storeAccepts st (withdraws l) = leaves (withEntry st (letterIndex l) (entryOf none)) (tells 0 (withdraws l) (st .variables))
+storeAccepts st (defines l k t) = leaves (withEntry st (letterIndex l) (entryOf (exprOf (read t)) k)) (tells 0 (defines l k t) (st .variables))
+storeAccepts st (withdraws l) = leaves (withEntry st (letterIndex l) (entryOf none openMark)) (tells 0 (withdraws l) (st .variables))
 storeAccepts st (runs x) = leaves (withVariables st (storeRan st x .variables)) (storeRan st x)
 
 -- any call
 unfoldable pub storeCall : Store → Call → Answered Store
 unfolding soundStore refusal answer storeAccepts
-storeCall st c = answer (refusal (soundStore st) (standsAt (st .used)) c) st (st .variables) c (storeAccepts st c)
+storeCall st c = answer (refusal (soundStore st) (standsAt (st .used)) (letterMark (st .marks)) c) st (st .variables) c (storeAccepts st c)
 
 -- ── what a function of the program returned ─────────────────────────────────────────────────────
 

@@ -14,6 +14,7 @@ use Rattle.language.specs.declared.Refusal.the-variants.{BadLine}
 use Rattle.language.specs.Answers.{refusalNumber}
 use Rattle.language.specs.Bytes.{newlineByte}
 use Rattle.language.specs.Limits.{maxHeight}
+use Rattle.language.specs.Roles.{openMark, cashierRole, letterMark}
 use Rattle.language.specs.Letters.{letterIndex}
 use Rattle.language.specs.Effects.{start}
 use Rattle.language.specs.Meaning.{Outcome, ended, stopped}
@@ -49,14 +50,14 @@ reported-bounded o v n (stopped e s r) h = record { height = h .height; written 
 -- of a run of any store
 pub run-bounded : (st : Store) (x : Run) → Bounded (length (x .output)) (storeCall st (runs x) .reply)
 unfolding storeCall
-run-bounded st x = go (refusal (soundStore st) (standsAt (st .used)) (runs x))
+run-bounded st x = go (refusal (soundStore st) (standsAt (st .used)) (letterMark (st .marks)) (runs x))
   where
     go : (o : Option Refusal) → Bounded (length (x .output)) (answer o st (st .variables) (runs x) (storeAccepts st (runs x)) .reply)
     go none =
         unfold answer storeAccepts storeRan in
         reported-bounded (x .output) (st .variables) (x .allowance)
-        (execute (st .cells) (st .used) (letterIndex (x .letter)) (x .allowance) (start (st .variables) (x .inputs) (x .output)))
-        (lent-parts (st .cells) (st .used) (letterIndex (x .letter)) (x .allowance) (st .variables) (x .inputs) (x .output))
+        (execute (st .cells) (st .used) (st .marks) (x .role) (letterIndex (x .letter)) (x .allowance) (start (st .variables) (x .inputs) (x .output)))
+        (lent-parts (st .cells) (st .used) (st .marks) (x .role) (letterIndex (x .letter)) (x .allowance) (st .variables) (x .inputs) (x .output))
     go (some r) = unfold answer tells in record { height = omega arith; written = omega arith }
 
 -- ── what is printed ─────────────────────────────────────────────────────────────────────────────
@@ -78,11 +79,11 @@ told-printed st st′ k n c o o′ r e p =
 
 -- a run that left the store st′, the list p and the output o, and reported r
 module _ (st st′ : Store) (k l n : ℕ) (i p : List ℤ) (o : List ℕ) (r : Report)
-    (e : answered st′ r p o ≡ storeCall st (running l n i (replicate maxHeight (pos 0)) (replicate outputBytes 0))) where
+    (e : answered st′ r p o ≡ storeCall st (running l cashierRole n i (replicate maxHeight (pos 0)) (replicate outputBytes 0))) where
   pub bounded : Bounded outputBytes (record { report = r; list = p; output = o; variables = st′ .variables })
   bounded =
       let lent : List ℕ = replicate outputBytes 0 in
-      let x : Run = record { letter = l; allowance = n; inputs = i; list = replicate maxHeight (pos 0); output = lent } in
+      let x : Run = record { letter = l; role = cashierRole; allowance = n; inputs = i; list = replicate maxHeight (pos 0); output = lent } in
       subst (λ m. Bounded m (record { report = r; list = p; output = o; variables = st′ .variables })) (length-replicate {A = ℕ} outputBytes 0)
       (subst (λ (y : Answered Store). Bounded (length lent) (y .reply)) (sym e) (run-bounded st x))
 
@@ -117,11 +118,11 @@ two-most a b m n h g = simp length-append (omega arith)
 -- what a request prints has room
 granted-most : (st : Store) (k : ℕ) (q : Request) → length (granted storeCall st k q .bytes) ≤ paperBytes
 unfolding granted shown
-granted-most st k (define l t) = omega (arith, figures-most (Printed.told k (storeCall st (defines l t) .reply .report .number)))
+granted-most st k (define l t) = omega (arith, figures-most (Printed.told k (storeCall st (defines l openMark t) .reply .report .number)))
 granted-most st k (withdraw l) = omega (arith, figures-most (Printed.told k (storeCall st (withdraws l) .reply .report .number)))
 granted-most st k (run l n i) =
     let lent : List ℕ = replicate outputBytes 0 in
-    let x : Run = record { letter = l; allowance = n; inputs = i; list = replicate maxHeight (pos 0); output = lent } in
+    let x : Run = record { letter = l; role = cashierRole; allowance = n; inputs = i; list = replicate maxHeight (pos 0); output = lent } in
     let r = storeCall st (runs x) .reply in
     let shows = take (r .report .written) (r .output) in
     let few : r .report .written ≤ outputBytes =

@@ -8,6 +8,7 @@ use lib.Dec.{leb}
 use Rattle.language.specs.declared.Refusal.the-variants.{BadLine}
 use Rattle.language.specs.Answers.{refusalNumber}
 use Rattle.language.specs.Limits.{maxHeight}
+use Rattle.language.specs.Roles.{openMark, cashierRole}
 use Rattle.numerals.specs.Numerals.{Written, wrote, written}
 use Rattle.book.specs.Calls.{Call, defines, withdraws, running}
 use Rattle.book.specs.Replies.{Reply, Answered}
@@ -52,13 +53,14 @@ shown k r = figures (ranFigures k r) ++ paper (take (r .report .written) (r .out
 
 -- Of a store or a book s that answers its calls by f:
 module _ {S : Type 0} (f : S → Call → Answered S) where
-  -- what it is after the request of line k, and the bytes printed; a run is lent 64 list places and "4,096 bytes"
+  -- what it is after the request of line k, and the bytes printed; a run is lent 64 list places and "4,096 bytes". Document 02, U7: "On the desk program
+  -- `D` defines open letters and `R` runs as a cashier."
   unfoldable pub granted : S → ℕ → Request → Served S
   unfolding figures shown
-  granted s k (define l t) = let x = f s (defines l t) in serves (x .kept) (figures (told k (x .reply .report .number)))
+  granted s k (define l t) = let x = f s (defines l openMark t) in serves (x .kept) (figures (told k (x .reply .report .number)))
   granted s k (withdraw l) = let x = f s (withdraws l) in serves (x .kept) (figures (told k (x .reply .report .number)))
   granted s k (run l n i) =
-      let x = f s (running l n i (replicate maxHeight (pos 0)) (replicate outputBytes 0)) in
+      let x = f s (running l cashierRole n i (replicate maxHeight (pos 0)) (replicate outputBytes 0)) in
       serves (x .kept) (shown k (x .reply))
   granted s k bad = serves s (figures (told k (refusalNumber BadLine)))
 

@@ -11,8 +11,10 @@ use figures::Figures;
 use figures::top;
 use figures::write_figures;
 use figures::write_output;
+use language::CASHIER;
 use language::HEIGHT;
 use language::LETTERS;
+use language::OPEN;
 use language::Refusal;
 use language::STORE_CELLS;
 use language::VARIABLES;
@@ -42,10 +44,11 @@ fn tell(paper: &mut [u8], line: u32, answer: u32) -> usize
     write_figures(paper, 0, f)
 }
 
-// `R` letter allowance inputs.
+// `R` letter allowance inputs: "`R` runs as a cashier".
 fn execute(
     cells: &[i32; STORE_CELLS],
     used: &[usize; LETTERS],
+    marks: &[u32; LETTERS],
     vars: &mut [i32; VARIABLES],
     line: u32,
     letter: u8,
@@ -54,8 +57,8 @@ fn execute(
     paper: &mut [u8],
 ) -> usize
     requires { ⌜ paperBytes ≤ length (now paper) ⌝ }
-    ensures { λ r. ⌜ performs (storeOf (now (cells .entry)) (now (used .entry)) (now (vars .exit))) r (now (paper .exit))
-        ≡ printed (now (paper .entry)) (granted storeCall (storeOf (now (cells .entry)) (now (used .entry)) (now (vars .entry))) line
+    ensures { λ r. ⌜ performs (storeOf (now (cells .entry)) (now (used .entry)) (now (marks .entry)) (now (vars .exit))) r (now (paper .exit))
+        ≡ printed (now (paper .entry)) (granted storeCall (storeOf (now (cells .entry)) (now (used .entry)) (now (marks .entry)) (now (vars .entry))) line
         (run letter allowance (now (inputs .entry)))) ⌝ }
 {
     let mut list = [0i32; HEIGHT];
@@ -63,8 +66,10 @@ fn execute(
     let report = runner::run(
         cells,
         used,
+        marks,
         vars,
         letter,
+        CASHIER,
         allowance,
         inputs,
         &mut list,
@@ -89,13 +94,14 @@ fn execute(
 pub fn perform(
     cells: &mut [i32; STORE_CELLS],
     used: &mut [usize; LETTERS],
+    marks: &mut [u32; LETTERS],
     vars: &mut [i32; VARIABLES],
     number: u32,
     line: &[u8],
     paper: &mut [u8],
 ) -> usize
-    ensures { λ r. ⌜ performs (storeOf (now (cells .exit)) (now (used .exit)) (now (vars .exit))) r (now (paper .exit))
-        ≡ performed (storeOf (now (cells .entry)) (now (used .entry)) (now (vars .entry))) number (now (line .entry)) (now (paper .entry)) ⌝ }
+    ensures { λ r. ⌜ performs (storeOf (now (cells .exit)) (now (used .exit)) (now (marks .exit)) (now (vars .exit))) r (now (paper .exit))
+        ≡ performed (storeOf (now (cells .entry)) (now (used .entry)) (now (marks .entry)) (now (vars .entry))) number (now (line .entry)) (now (paper .entry)) ⌝ }
 {
     if paper.len() < PAPER {
         return 0;
@@ -105,18 +111,19 @@ pub fn perform(
     match command {
         Command::Define(letter) => {
             let kept = *vars;
-            let answer = lent::define(cells, used, kept, letter, &line[FIELD_START..]);
+            let answer = lent::define(cells, used, marks, kept, letter, OPEN, &line[FIELD_START..]);
             tell(paper, number, answer)
         }
         Command::Withdraw(letter) => {
             let kept = *vars;
-            let answer = lent::withdraw(cells, used, kept, letter);
+            let answer = lent::withdraw(cells, used, marks, kept, letter);
             tell(paper, number, answer)
         }
         Command::Run(letter, allowance, count) => {
             execute(
                 cells,
                 used,
+                marks,
                 vars,
                 number,
                 letter,

@@ -11,6 +11,7 @@ use lib.Dec.{leb, eqb}
 use borrow.Author.Tests.{lt-leb, leb-true, leb-false}
 use Rattle.language.specs.Bytes.{newlineByte}
 use Rattle.lines.specs.Lines.{maxLine, Request, define, withdraw, run, bad, provided, request}
+use Rattle.language.specs.Roles.{openMark, cashierRole}
 use Rattle.language.specs.Limits.{maxHeight}
 use Rattle.book.specs.Calls.{Call, defines, withdraws, running}
 use Rattle.book.specs.Replies.{Reply, Answered}
@@ -40,13 +41,13 @@ module _ {S T : Type 0} (f : S → Call → Answered S) (g : T → Call → Answ
 
   -- the call of a run's line
   abbrev lendsRun : ℕ → ℕ → List ℤ → Call
-  lendsRun l n i = running l n i (replicate maxHeight (pos 0)) (replicate outputBytes 0)
+  lendsRun l n i = running l cashierRole n i (replicate maxHeight (pos 0)) (replicate outputBytes 0)
 
   -- what a request prints, and what comes after it
   alike-request : (s : S) (t : T) (k : ℕ) (q : Request) → Alike s t
       → (granted f s k q .bytes ≡ granted g t k q .bytes) × Alike (granted f s k q .kept) (granted g t k q .kept)
   unfolding granted
-  alike-request s t k (define l x) h = (ap (λ (r : Reply). figures (told k (r .report .number))) (alike-reply s t (defines l x) h), alike-next s t (defines l x) h)
+  alike-request s t k (define l x) h = (ap (λ (r : Reply). figures (told k (r .report .number))) (alike-reply s t (defines l openMark x) h), alike-next s t (defines l openMark x) h)
   alike-request s t k (withdraw l) h = (ap (λ (r : Reply). figures (told k (r .report .number))) (alike-reply s t (withdraws l) h), alike-next s t (withdraws l) h)
   alike-request s t k (run l n i) h = let c = lendsRun l n i in (ap (λ (r : Reply). shown k r) (alike-reply s t c h), alike-next s t c h)
   alike-request s t k bad h = (refl, h)

@@ -8,23 +8,26 @@ use language::Ending;
 use language::LETTERS;
 use language::STORE_CELLS;
 use language::Table;
+use language::bars;
 use operands::FRAMES;
 use operands::Machine;
 use operands::cells::exit_of;
 use operands::cells::target;
 
-// The call of letter a: "27 before 28".
+// The call of letter a by a run whose caller has this role: 27, then 34, then 28.
 pub fn call<'a>(
     m: Machine,
     cells: &'a [i32; STORE_CELLS],
     used: &'a [usize; LETTERS],
+    marks: &'a [u32; LETTERS],
+    role: u32,
     base: usize,
     end: usize,
     frames: &mut [u32; FRAMES],
     a: usize,
 ) -> Machine
     requires { ⌜ Calling base end m a (now frames) ⌝ }
-    ensures { λ r. ⌜ Called (markAt (now (cells .entry)) base end (isCall a)) (now (used .entry)) m (now (frames .entry)) r (now (frames .exit)) ⌝ }
+    ensures { λ r. ⌜ Called (markAt (now (cells .entry)) base end (isCall a)) (now (used .entry)) (now (marks .entry)) role m (now (frames .entry)) r (now (frames .exit)) ⌝ }
 {
     let f = exit_of(cells, base, end, m.at);
     if f == 0 {
@@ -35,6 +38,9 @@ pub fn call<'a>(
     }
     if used[a] == 0 {
         return m.stop(Ending::NoText);
+    }
+    if bars(role, marks[a]) {
+        return m.stop(Ending::StewardCall);
     }
     let d = m.depth;
     if d < Table::CALLS {

@@ -5,6 +5,7 @@ use console::Place;
 use console::finish;
 use console::step;
 use language::LETTERS;
+use language::OPEN;
 use language::STORE_CELLS;
 use language::VARIABLES;
 use numerals::write_bytes;
@@ -28,6 +29,7 @@ fn print(input: &[u8], output: &mut [u8]) -> usize
 {
     let mut cells = [0i32; STORE_CELLS];
     let mut used = [0usize; LETTERS];
+    let mut marks = [OPEN; LETTERS];
     let mut vars = [0i32; VARIABLES];
     let mut line = [0u8; KEPT];
     let mut paper = [0u8; PAPER];
@@ -38,6 +40,7 @@ fn print(input: &[u8], output: &mut [u8]) -> usize
         let a = step(
             &mut cells,
             &mut used,
+            &mut marks,
             &mut vars,
             &mut line,
             place,
@@ -50,7 +53,15 @@ fn print(input: &[u8], output: &mut [u8]) -> usize
         at += a.taken;
         place = a.place;
     }
-    let e = finish(&mut cells, &mut used, &mut vars, &line, place, &mut paper);
+    let e = finish(
+        &mut cells,
+        &mut used,
+        &mut marks,
+        &mut vars,
+        &line,
+        place,
+        &mut paper,
+    );
     let printed = e.printed;
     write_bytes(output, count, &paper[..printed]);
     count + printed

@@ -9,6 +9,7 @@ use console::finish;
 use console::line_end;
 use console::step;
 use language::LETTERS;
+use language::OPEN;
 use language::STORE_CELLS;
 use language::VARIABLES;
 use libc::STDERR_FILENO;
@@ -100,6 +101,7 @@ fn is_due(held: usize, person: bool, steps: u32) -> bool
 fn serve(
     cells: &mut [i32; STORE_CELLS],
     used: &mut [usize; LETTERS],
+    marks: &mut [u32; LETTERS],
     vars: &mut [i32; VARIABLES],
     line: &mut [u8],
     place: Place,
@@ -109,8 +111,8 @@ fn serve(
 ) -> Advance
     requires { ⌜ Lent (now line) (now out) ⌝ }
     ensures { λ r. ⌜ Serves (now (part .entry))
-        (progress (storeOf (now (cells .entry)) (now (used .entry)) (now (vars .entry))) place (now (line .entry)))
-        (advances (progress (storeOf (now (cells .exit)) (now (used .exit)) (now (vars .exit))) (r .place) (now (line .exit)))
+        (progress (storeOf (now (cells .entry)) (now (used .entry)) (now (marks .entry)) (now (vars .entry))) place (now (line .entry)))
+        (advances (progress (storeOf (now (cells .exit)) (now (used .exit)) (now (marks .exit)) (now (vars .exit))) (r .place) (now (line .exit)))
         (r .taken) (r .printed) (now (out .exit))) ⌝ }
 {
     let mut p = place;
@@ -126,7 +128,16 @@ fn serve(
                 printed: held,
             };
         }
-        let a = step(cells, used, vars, line, p, &part[at..], &mut out[held..]);
+        let a = step(
+            cells,
+            used,
+            marks,
+            vars,
+            line,
+            p,
+            &part[at..],
+            &mut out[held..],
+        );
         p = a.place;
         at += a.taken;
         held += a.printed;
@@ -149,6 +160,7 @@ struct Relayed {
 fn relay(
     cells: &mut [i32; STORE_CELLS],
     used: &mut [usize; LETTERS],
+    marks: &mut [u32; LETTERS],
     vars: &mut [i32; VARIABLES],
     line: &mut [u8],
     place: Place,
@@ -158,14 +170,14 @@ fn relay(
 ) -> Relayed
     requires { ⌜ Lent (now line) (now out) ⌝ }
     ensures { λ r. ⌜ Relays (now (part .entry))
-        (progress (storeOf (now (cells .entry)) (now (used .entry)) (now (vars .entry))) place (now (line .entry)))
-        (progress (storeOf (now (cells .exit)) (now (used .exit)) (now (vars .exit))) (r .place) (now (line .exit)))
+        (progress (storeOf (now (cells .entry)) (now (used .entry)) (now (marks .entry)) (now (vars .entry))) place (now (line .entry)))
+        (progress (storeOf (now (cells .exit)) (now (used .exit)) (now (marks .exit)) (now (vars .exit))) (r .place) (now (line .exit)))
         (r .taken) (r .written) ⌝ }
 {
     let mut p = place;
     let mut at: usize = 0;
     while at < part.len() {
-        let a = serve(cells, used, vars, line, p, &part[at..], out, person);
+        let a = serve(cells, used, marks, vars, line, p, &part[at..], out, person);
         p = a.place;
         at += a.taken; // the next steps of this part
         let written = write_answers(out, a.printed, p.done);
@@ -188,12 +200,13 @@ fn relay(
 fn attend(
     cells: &mut [i32; STORE_CELLS],
     used: &mut [usize; LETTERS],
+    marks: &mut [u32; LETTERS],
     vars: &mut [i32; VARIABLES],
     line: &mut [u8],
     out: &mut [u8],
     person: bool,
 )
-    requires { ⌜ Fresh (storeOf (now cells) (now used) (now vars)) (now line) (now out) ⌝ }
+    requires { ⌜ Fresh (storeOf (now cells) (now used) (now marks) (now vars)) (now line) (now out) ⌝ }
 {
     let mut buffer = io::large_buffer();
     let mut p = Place { done: 0, kept: 0 };
@@ -208,11 +221,11 @@ fn attend(
         let n = io::count(got, &buffer);
         if n == 0 {
             // "the newline, which the last may lack"
-            let e = finish(cells, used, vars, line, p, out);
+            let e = finish(cells, used, marks, vars, line, p, out);
             write_answers(out, e.printed, e.place.done);
             return;
         }
-        let t = relay(cells, used, vars, line, p, &buffer[..n], out, person);
+        let t = relay(cells, used, marks, vars, line, p, &buffer[..n], out, person);
         p = t.place;
         if !t.written {
             return;
@@ -223,6 +236,7 @@ fn attend(
 fn main() {
     let mut cells = [0i32; STORE_CELLS];
     let mut used = [0usize; LETTERS];
+    let mut marks = [OPEN; LETTERS];
     let mut vars = [0i32; VARIABLES];
     let mut line = [0u8; KEPT];
     let mut out = [0u8; HELD];
@@ -230,6 +244,7 @@ fn main() {
     attend(
         &mut cells,
         &mut used,
+        &mut marks,
         &mut vars,
         &mut line,
         &mut out,

@@ -62,12 +62,14 @@ const FIRST_LETTER: i32 = 0 - (b'a' as i32);
 
 const LAST_LETTER: i32 = 0 - (b'z' as i32);
 
-// One turn: the instruction of the due cell, or a return. The table is the one that the caller has fetched; no count is read here but that of a letter
-// that is called.
+// One turn: the instruction of the due cell, or a return. The table is the one that the caller has fetched; no count and no mark is read here but those of
+// a letter that is called.
 pub fn turn<'a>(
     m: Machine,
     cells: &'a [i32; STORE_CELLS],
     used: &'a [usize; LETTERS],
+    marks: &'a [u32; LETTERS],
+    role: u32,
     base: usize,
     end: usize,
     inputs: &[i32],
@@ -79,9 +81,9 @@ pub fn turn<'a>(
 ) -> Machine
     requires { ⌜ Turning base end m (now frames) (now output) ⌝ }
     ensures { λ r. ⌜ Turned base end
-        (held m (now (cells .entry)) (now (used .entry)) (now (inputs .entry)) (now (frames .entry)) (now (counts .entry))
+        (held m (now (cells .entry)) (now (used .entry)) (now (marks .entry)) role (now (inputs .entry)) (now (frames .entry)) (now (counts .entry))
         (now (vars .entry)) (now (list .entry)) (now (output .entry)))
-        (held r (now (cells .entry)) (now (used .entry)) (now (inputs .entry)) (now (frames .exit)) (now (counts .exit))
+        (held r (now (cells .entry)) (now (used .entry)) (now (marks .entry)) role (now (inputs .entry)) (now (frames .exit)) (now (counts .exit))
         (now (vars .exit)) (now (list .exit)) (now (output .exit))) ⌝ }
 {
     if end < m.at + 2 {
@@ -115,6 +117,8 @@ pub fn turn<'a>(
                     m,
                     cells,
                     used,
+                    marks,
+                    role,
                     base,
                     end,
                     frames,

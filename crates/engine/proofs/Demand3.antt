@@ -2,9 +2,11 @@
 use mathlib.Core.Path.{_≡_, refl, sym, ap, _∙_, subst}
 use Prim.Native.Nat.{ℕ, suc}
 use native.Mathlib.Omega.{arith}
+use mathlib.Core.Option.{Option}
 use mathlib.Core.List.{List, [], _∷_}
 use Rattle.language.specs.Answers.{isRefusal}
 use Rattle.language.specs.Letters.{letterIndex, letterByte, firstLetter, lastLetter}
+use Rattle.language.specs.Roles.{bars}
 use Rattle.language.specs.Effects.{start}
 use Rattle.language.specs.Meaning.{meaning}
 use Rattle.language.proofs.Between.{between-bounds}
@@ -12,8 +14,8 @@ use Rattle.book.specs.Calls.{Run, runs}
 use Rattle.book.specs.Replies.{Reply, reported}
 use Rattle.book.specs.Store.{freshStore, storeCall}
 use Rattle.book.specs.History as Definitions
-use Rattle.book.specs.History.{answers, after, storeAnswers, standing, readText}
-use Rattle.book.specs.Statements.{Never, isNone, runAfter, standingTexts}
+use Rattle.book.specs.History.{answers, after, storeAnswers, Standing, standing, readText, markOf}
+use Rattle.book.specs.Statements.{Never, refuses, runAfter}
 use Rattle.book.proofs.History.{answers-agree}
 use Rattle.book.proofs.HistoryStanding as Book
 use Rattle.engine.specs.declared.Store.{Store}
@@ -29,7 +31,7 @@ chained s (x ∷ ss) h =
     λ i. h .0 i .reply ∷ e i
 
 -- from the fresh store
-chained-fresh : (s : Store) (ss : List Step) → stored s ≡ freshStore → Promised s ss → repliesOf ss ≡ storeAnswers freshStore (callsOf ss)
+pub chained-fresh : (s : Store) (ss : List Step) → stored s ≡ freshStore → Promised s ss → repliesOf ss ≡ storeAnswers freshStore (callsOf ss)
 chained-fresh s ss e h = chained s ss h ∙ ap (λ z. storeAnswers z (callsOf ss)) e
 
 -- Every session answers as the book does, and neither 13 nor 29.
@@ -73,17 +75,20 @@ pub refused-exactly : RefusedExactly
 refused-exactly s ss x y f =
     ap (λ (z : Reply). isRefusal (z .report .number)) (same s ss x y f)
     ∙ Book.refused-exactly (callsOf ss) x (f .admissible)
-    ∙ ap isNone (sym (stands s ss x y f (x .letter)))
+    ∙ ap (refuses (x .role)) (sym (stands s ss x y f (x .letter)))
 
 pub obeys-standing : ObeysStanding
-obeys-standing s ss x y w f e =
+obeys-standing s ss x y w f e m =
     let b = between-bounds firstLetter lastLetter (x .letter) (f .admissible .letter) in
     let q : letterByte (letterIndex (x .letter)) ≡ x .letter = omega arith in
-    let all : (λ a. readText (stood ss (letterByte a))) ≡ standingTexts (callsOf ss) = λ j a. readText (stands s ss x y f (letterByte a) j) in
+    let then : ℕ → Option Standing = λ a. stood ss (letterByte a) in
+    let now : ℕ → Option Standing = λ a. standing (callsOf ss) (storeAnswers freshStore (callsOf ss)) (letterByte a) in
+    let all : then ≡ now = λ j a. stands s ss x y f (letterByte a) j in
+    let own : now (letterIndex (x .letter)) ≡ stood ss (x .letter) =
+    sym (ap (λ g. g (letterIndex (x .letter))) all) ∙ ap (stood ss) q in
     let v : storeAfter s ss .vars ≡ Definitions.storeAfter freshStore (callsOf ss) .variables = ap (λ z. z .variables) (final s ss x y f) in
     same s ss x y f
-    ∙ Book.obeys-standing (callsOf ss) x w (f .admissible) (sym (ap (λ g. g (letterIndex (x .letter))) all) ∙ ap (λ z. readText (stood ss z)) q ∙ e)
-    ∙ ap (λ g. reported (Definitions.storeAfter freshStore (callsOf ss) .variables) (x .allowance)
-    (meaning g (suc (x .allowance)) (letterIndex (x .letter)) w 0 (start (Definitions.storeAfter freshStore (callsOf ss) .variables) (x .inputs) (x .output)) (x .allowance))) (sym all)
-    ∙ ap (λ z. reported z (x .allowance)
-    (meaning (λ a. readText (stood ss (letterByte a))) (suc (x .allowance)) (letterIndex (x .letter)) w 0 (start z (x .inputs) (x .output)) (x .allowance))) (sym v)
+    ∙ Book.obeys-standing (callsOf ss) x w (f .admissible) (ap readText own ∙ e) (ap (λ z. bars (x .role) (markOf z)) own ∙ m)
+    ∙ (λ i. reported (sym v i) (x .allowance)
+    (meaning (λ a. readText (sym all i a)) (λ a. markOf (sym all i a)) (x .role) (suc (x .allowance)) (letterIndex (x .letter)) w 0
+    (start (sym v i) (x .inputs) (x .output)) (x .allowance)))

@@ -5,11 +5,13 @@
 -- for every argument, that a call of each function is such a step.
 use mathlib.Core.Path.{_≡_}
 use Prim.Native.Nat.{ℕ, suc}
+use mathlib.Core.Bool.{false}
 use mathlib.Core.Option.{Option, some}
 use mathlib.Core.List.{List, [], _∷_, map}
 use lib.IntN.{ℤ}
 use Rattle.language.specs.Answers.{isRefusal}
 use Rattle.language.specs.Letters.{letterIndex, letterByte}
+use Rattle.language.specs.Roles.{bars}
 use Rattle.language.specs.Syntax.{Expr}
 use Rattle.language.specs.Effects.{start}
 use Rattle.language.specs.Meaning.{meaning}
@@ -17,8 +19,8 @@ use Rattle.book.specs.Calls.{Run, Call, runs}
 use Rattle.book.specs.Replies.{Reply, leaves, reported}
 use Rattle.book.specs.Book.{freshBook}
 use Rattle.book.specs.Store.{freshStore, storeCall}
-use Rattle.book.specs.History.{bookAnswers, standing, readText}
-use Rattle.book.specs.Statements.{Never, Admissible, isNone}
+use Rattle.book.specs.History.{bookAnswers, Standing, standing, readText, markOf}
+use Rattle.book.specs.Statements.{Never, Admissible, refuses}
 use Rattle.engine.specs.declared.Store.{Store}
 use Rattle.engine.specs.declared.Told.{Told}
 use Rattle.engine.specs.declared.Answer.{Answer}
@@ -68,26 +70,29 @@ abbrev pub storeAfter : Store → List Step → Store
 storeAfter s [] = s
 storeAfter s (x ∷ ss) = storeAfter (x .store) ss
 
--- the text of letter l that stands after these steps: from its accepted define to the next accepted define or withdraw of its letter
-abbrev pub stood : List Step → ℕ → Option (List ℕ)
+-- the text of letter l that stands after these steps, with its mark: from its accepted define to the next accepted define or withdraw of its letter
+abbrev pub stood : List Step → ℕ → Option Standing
 stood ss l = standing (callsOf ss) (repliesOf ss) l
 
--- A run x that follows such a session, of a letter a to z, with 64 places and lawful inputs; y is the step that it takes:
+-- A run x that follows such a session, of a letter a to z, with 64 places, lawful inputs and one of the two roles; y is the step that it takes:
 pub record Follows (s : Store) (ss : List Step) (x : Run) (y : Step) : Type 0 where
   pub fresh : stored s ≡ freshStore
   pub session : Promised s ss
   pub promise : leaves (stored (y .store)) (y .reply) ≡ storeCall (stored (storeAfter s ss)) (runs x)
   pub admissible : Admissible x
 
--- it is refused exactly when no text of its letter then stands. proofs/Demand3 `refused-exactly`
+-- it is "refused exactly when 10 or 33 fits": no text of its letter then stands, or one that is not for its caller. proofs/Demand3 `refused-exactly`
 abbrev pub RefusedExactly : Type 0
-RefusedExactly = (s : Store) (ss : List Step) (x : Run) (y : Step) → Follows s ss x y → isRefusal (y .reply .report .number) ≡ isNone (stood ss (x .letter))
+RefusedExactly =
+    (s : Store) (ss : List Step) (x : Run) (y : Step) → Follows s ss x y → isRefusal (y .reply .report .number) ≡ refuses (x .role) (stood ss (x .letter))
 
--- otherwise it gives what the nested meaning gives over the texts then standing. proofs/Demand3 `obeys-standing`
+-- otherwise it gives what the nested meaning gives over the texts then standing, with their marks and its role. proofs/Demand3 `obeys-standing`
 abbrev pub ObeysStanding : Type 0
 ObeysStanding =
     (s : Store) (ss : List Step) (x : Run) (y : Step) (w : Expr) → Follows s ss x y → readText (stood ss (x .letter)) ≡ some w
+    → bars (x .role) (markOf (stood ss (x .letter))) ≡ false
     → let v = storeAfter s ss .vars in
     y .reply
     ≡ reported v (x .allowance)
-    (meaning (λ a. readText (stood ss (letterByte a))) (suc (x .allowance)) (letterIndex (x .letter)) w 0 (start v (x .inputs) (x .output)) (x .allowance))
+    (meaning (λ a. readText (stood ss (letterByte a))) (λ a. markOf (stood ss (letterByte a))) (x .role) (suc (x .allowance)) (letterIndex (x .letter)) w 0
+    (start v (x .inputs) (x .output)) (x .allowance))

@@ -1,3 +1,4 @@
 pub mod Stored
 pub mod Demand3
 pub mod Reach
+pub mod Stewards

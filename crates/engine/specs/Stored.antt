@@ -11,7 +11,7 @@ use Rattle.engine.specs.declared.Answer.{Answer}
 
 -- the code's store
 abbrev pub stored : Store → Definition.Store
-stored s = Definition.storeOf (s .cells) (s .used) (s .vars)
+stored s = Definition.storeOf (s .cells) (s .used) (s .marks) (s .vars)
 
 -- what a define or a withdraw, the call c, returned
 abbrev pub told : Told → Call → Answered Definition.Store

@@ -20,10 +20,10 @@ fn fresh() -> Store
 }
 
 // A step that defines.
-fn define(s: Store, letter: u8, text: &[u8]) -> Told
-    ensures { λ r. ⌜ Promised s (tellsOf (defines letter (now (text .entry))) r ∷ []) ⌝ }
+fn define(s: Store, letter: u8, mark: u32, text: &[u8]) -> Told
+    ensures { λ r. ⌜ Promised s (tellsOf (defines letter mark (now (text .entry))) r ∷ []) ⌝ }
 {
-    s.define(letter, text)
+    s.define(letter, mark, text)
 }
 
 // A step that withdraws.
@@ -37,15 +37,16 @@ fn withdraw(s: Store, letter: u8) -> Told
 fn run(
     s: Store,
     letter: u8,
+    role: u32,
     allowance: u32,
     inputs: &[i32],
     list: &mut [i32],
     output: &mut [u8],
 ) -> Answer
     ensures { λ r. ⌜ Promised s
-        (runOf (running letter allowance (now (inputs .entry)) (now (list .entry)) (now (output .entry))) r (now (list .exit)) (now (output .exit)) ∷ []) ⌝ }
+        (runOf (running letter role allowance (now (inputs .entry)) (now (list .entry)) (now (output .entry))) r (now (list .exit)) (now (output .exit)) ∷ []) ⌝ }
 {
-    s.run(letter, allowance, inputs, list, output)
+    s.run(letter, role, allowance, inputs, list, output)
 }
 
 // A report of the store that a session left, and the same store.

@@ -1,7 +1,9 @@
 // Document 01's examples that are not starred, each tried and printed beside what it should give. The last line counts the differences.
 use engine::Store;
+use language::CASHIER;
 use language::HEIGHT;
 use language::MOST_VALUE;
+use language::OPEN;
 use operands::cells::bounded;
 
 // What a run gave: its number, its steps and the top of its list, 0 if none.
@@ -30,9 +32,10 @@ fn power(input: i32) -> Given {
     let inputs = [input; 1];
     let mut list = [0i32; HEIGHT];
     let mut output = [0u8; 16];
-    let d = Store::fresh().define(b'd', b"(0L'/1';'/1'-d'/2'*;)");
-    let m = d.store.define(b'm', b"(Id;)");
-    let r = m.store.run(b'm', 1000, &inputs, &mut list, &mut output);
+    let d = Store::fresh().define(b'd', OPEN, b"(0L'/1';'/1'-d'/2'*;)");
+    let m = d.store.define(b'm', OPEN, b"(Id;)");
+    let r = m.store
+        .run(b'm', CASHIER, 1000, &inputs, &mut list, &mut output);
     let report = r.report;
     Given {
         number: report.number,
@@ -42,7 +45,7 @@ fn power(input: i32) -> Given {
 }
 
 fn link(text: &[u8]) -> Linked {
-    let a = Store::fresh().define(b'a', text);
+    let a = Store::fresh().define(b'a', OPEN, text);
     let used = a.store.used;
     Linked {
         number: a.number,

@@ -7,11 +7,12 @@ use lib.Dec.{eqb}
 use lib.IntN.{ℤ}
 use Rattle.language.specs.declared.Ending.the-variants.{Spent}
 use Rattle.language.specs.Machine.{Instruction, transfer, fail, operateAt, testAt, callAt, Decoded, last, damaged, code, decode}
-use Rattle.language.specs.Tables.{tableFrom, decodeAt, standsAt, execute}
+use Rattle.language.specs.Tables.{tableFrom, decodeAt, standsAt, barredAt, execute}
 use Rattle.operands.specs.Loop.{Spot, Turn, continues, enters, finishes, halt, instructionTurn, decodedTurn}
 use Rattle.interpreter.specs.declared.cycle.Fetched.{Fetched}
-use Rattle.interpreter.specs.Fetching.{fetched, Progress, next, over, turnBy, proceeds, turnedOn, course, comesTo, leaves, onTurn, goesOn}
-use Rattle.interpreter.specs.Claims.{PairStored, GoOnAlike, AnswersRemain}
+use Rattle.interpreter.specs.Fetching.{fetched, Progress, next, over, turnBy, proceeds, turnedOn, course, comesTo, startsAt, leaves, onTurn, goesOn}
+use Rattle.interpreter.specs.Claims.{PairStored, GoOnAlike, AnswersRemain, OnlyAllowed}
+use Rattle.interpreter.proofs.Allowed.{Allowed, AllowedTurn, decoded-allowed}
 use Rattle.interpreter.proofs.Loop.{runAt, after, turn-run, Stays, decoded-stays}
 
 -- ── the pair ────────────────────────────────────────────────────────────────────────────────────
@@ -21,41 +22,41 @@ abbrev Paired : List ℕ → Progress → Type 0
 Paired u (next s) = s .pair ≡ fetched u (s .spot .letter)
 Paired u (over o) = Unit {0}
 
-module _ (c : List ℤ) (u : List ℕ) where
-  turn-paired : (p : Fetched) (l : ℕ) (t : Turn) → p ≡ fetched u l → Stays l t → Paired u (proceeds c u p t)
+module _ (c : List ℤ) (u k : List ℕ) (r : ℕ) where
+  turn-paired : (p : Fetched) (l : ℕ) (t : Turn) → p ≡ fetched u l → Stays l t → Paired u (proceeds c u k r p t)
   turn-paired p l (continues m) e k = e ∙ ap (fetched u) (sym k)
   turn-paired p l (enters m) e k = refl
   turn-paired p l (finishes o) e k = tt
 
-  on-paired : (x : Progress) → Paired u x → Paired u (turnedOn c u x)
+  on-paired : (x : Progress) → Paired u x → Paired u (turnedOn c u k r x)
   on-paired (next s) e =
       let p = s .pair in
-      turn-paired p (s .spot .letter) (turnBy c u p (s .spot)) e (decoded-stays (standsAt u) (decode (tableFrom c (p .base) (p .end)) (s .spot .cell)) (s .spot))
+      turn-paired p (s .spot .letter) (turnBy c u k r p (s .spot)) e (decoded-stays (standsAt u) (barredAt k r) (decode (tableFrom c (p .base) (p .end)) (s .spot .cell)) (s .spot))
   on-paired (over o) e = tt
 
-  course-paired : (n : ℕ) (m : Spot) → Paired u (course c u n m)
+  course-paired : (n : ℕ) (m : Spot) → Paired u (course c u k r n m)
   unfolding course
   course-paired zero m = refl
-  course-paired (suc n) m = on-paired (course c u n m) (course-paired n m)
+  course-paired (suc n) m = on-paired (course c u k r n m) (course-paired n m)
 
 -- before every mark the pair is the store's
 pub pair-stored : PairStored
-pair-stored c u m n s e = subst (Paired u) e (course-paired c u n m)
+pair-stored c u k r m n s e = subst (Paired u) e (course-paired c u k r n m)
 
 -- ── until a call or a return is due ─────────────────────────────────────────────────────────────
 
 -- a turn that is no call and no return does not ask which letters stand
-instruction-alike : (f g : ℕ → Bool) (i : Instruction) (m : Spot) → leaves (code i) ≡ false → instructionTurn f i m ≡ instructionTurn g i m
-instruction-alike f g (transfer n) m e = refl
-instruction-alike f g fail m e = refl
-instruction-alike f g (operateAt o n) m e = refl
-instruction-alike f g (testAt p n x) m e = refl
-instruction-alike f g (callAt a n x) m e = absurd (true≢false e)
+instruction-alike : (f g b : ℕ → Bool) (i : Instruction) (m : Spot) → leaves (code i) ≡ false → instructionTurn f b i m ≡ instructionTurn g b i m
+instruction-alike f g b (transfer n) m e = refl
+instruction-alike f g b fail m e = refl
+instruction-alike f g b (operateAt o n) m e = refl
+instruction-alike f g b (testAt p n x) m e = refl
+instruction-alike f g b (callAt a n x) m e = absurd (true≢false e)
 
-decoded-alike : (f g : ℕ → Bool) (x : Decoded) (m : Spot) → leaves x ≡ false → decodedTurn f x m ≡ decodedTurn g x m
-decoded-alike f g last m e = refl
-decoded-alike f g damaged m e = refl
-decoded-alike f g (code i) m e = ap (cond (eqb (m .left) 0) (halt Spent m)) (instruction-alike f g i m e)
+decoded-alike : (f g b : ℕ → Bool) (x : Decoded) (m : Spot) → leaves x ≡ false → decodedTurn f b x m ≡ decodedTurn g b x m
+decoded-alike f g b last m e = refl
+decoded-alike f g b damaged m e = refl
+decoded-alike f g b (code i) m e = ap (cond (eqb (m .left) 0) (halt Spent m)) (instruction-alike f g b i m e)
 
 on-alike : (f g : Spot → Turn) → ((m : Spot) → f m ≡ g m) → (t : Turn) → onTurn t f ≡ onTurn t g
 on-alike f g h (continues m) = h m
@@ -65,41 +66,71 @@ on-alike f g h (finishes o) = refl
 -- two stores that differ in used-cell counts alone
 pub go-on-alike : GoOnAlike
 unfolding goesOn
-go-on-alike c u v p zero m = refl
-go-on-alike c u v p (suc n) m = go (leaves d) refl (on-alike (goesOn c u p n) (goesOn c v p n) (go-on-alike c u v p n) (turnBy c v p m))
+go-on-alike c u v k r p zero m = refl
+go-on-alike c u v k r p (suc n) m = go (leaves d) refl (on-alike (goesOn c u k r p n) (goesOn c v k r p n) (go-on-alike c u v k r p n) (turnBy c v k r p m))
   where
     d : Decoded
     d = decode (tableFrom c (p .base) (p .end)) (m .cell)
 
-    go : (b : Bool) → leaves d ≡ b → onTurn (turnBy c v p m) (goesOn c u p n) ≡ onTurn (turnBy c v p m) (goesOn c v p n)
-        → cond b (continues m) (onTurn (turnBy c u p m) (goesOn c u p n)) ≡ cond b (continues m) (onTurn (turnBy c v p m) (goesOn c v p n))
-    go true e k = refl
-    go false e k = ap (λ (t : Turn). onTurn t (goesOn c u p n)) (decoded-alike (standsAt u) (standsAt v) d m e) ∙ k
+    go : (b : Bool) → leaves d ≡ b → onTurn (turnBy c v k r p m) (goesOn c u k r p n) ≡ onTurn (turnBy c v k r p m) (goesOn c v k r p n)
+        → cond b (continues m) (onTurn (turnBy c u k r p m) (goesOn c u k r p n)) ≡ cond b (continues m) (onTurn (turnBy c v k r p m) (goesOn c v k r p n))
+    go true e h = refl
+    go false e h = ap (λ (t : Turn). onTurn t (goesOn c u k r p n)) (decoded-alike (standsAt u) (standsAt v) (barredAt k r) d m e) ∙ h
 
 -- ── answers ─────────────────────────────────────────────────────────────────────────────────────
 
-module _ (c : List ℤ) (u : List ℕ) where
-  turn-comes : (p : Fetched) (t : Turn) → comesTo c u (proceeds c u p t) ≡ after (decodeAt c u) (standsAt u) t
+module _ (c : List ℤ) (u k : List ℕ) (r : ℕ) where
+  turn-comes : (p : Fetched) (t : Turn) → comesTo c u k r (proceeds c u k r p t) ≡ after (decodeAt c u) (standsAt u) (barredAt k r) t
   unfolding after runAt
   turn-comes p (continues m) = refl
   turn-comes p (enters m) = refl
   turn-comes p (finishes o) = refl
 
-  on-comes : (x : Progress) → Paired u x → comesTo c u (turnedOn c u x) ≡ comesTo c u x
+  on-comes : (x : Progress) → Paired u x → comesTo c u k r (turnedOn c u k r x) ≡ comesTo c u k r x
   unfolding after runAt
   on-comes (over o) e = refl
   on-comes (next s) e =
       let m = s .spot in
-      turn-comes (s .pair) (turnBy c u (s .pair) m)
-      ∙ ap (λ (p : Fetched). after (decodeAt c u) (standsAt u) (turnBy c u p m)) e
-      ∙ sym (turn-run (decodeAt c u) (standsAt u) m)
+      turn-comes (s .pair) (turnBy c u k r (s .pair) m)
+      ∙ ap (λ (p : Fetched). after (decodeAt c u) (standsAt u) (barredAt k r) (turnBy c u k r p m)) e
+      ∙ sym (turn-run (decodeAt c u) (standsAt u) (barredAt k r) m)
 
-  course-comes : (k : ℕ) (m : Spot) → comesTo c u (course c u k m) ≡ comesTo c u (course c u zero m)
+  course-comes : (j : ℕ) (m : Spot) → comesTo c u k r (course c u k r j m) ≡ comesTo c u k r (course c u k r zero m)
   unfolding course
   course-comes zero m = refl
-  course-comes (suc k) m = on-comes (course c u k m) (course-paired c u k m) ∙ course-comes k m
+  course-comes (suc j) m = on-comes (course c u k r j m) (course-paired c u k r j m) ∙ course-comes j m
 
 -- the run comes to what the table machine comes to
 pub answers-remain : AnswersRemain
 unfolding course execute
-answers-remain c u a n v i o k = course-comes c u k _
+answers-remain c u k r a n v i o j = course-comes c u k r j _
+
+-- ── letters that are for the caller ─────────────────────────────────────────────────────────────
+
+-- a mark is next in such a letter, or the run is over
+abbrev AllowedProgress : (ℕ → Bool) → Progress → Type 0
+AllowedProgress barred (next s) = Allowed barred (s .spot)
+AllowedProgress barred (over o) = Unit {0}
+
+module _ (c : List ℤ) (u k : List ℕ) (r : ℕ) where
+  proceeds-allowed : (p : Fetched) (t : Turn) → AllowedTurn (barredAt k r) t → AllowedProgress (barredAt k r) (proceeds c u k r p t)
+  proceeds-allowed p (continues m) h = h
+  proceeds-allowed p (enters m) h = h
+  proceeds-allowed p (finishes o) h = tt
+
+  on-allowed : (x : Progress) → AllowedProgress (barredAt k r) x → AllowedProgress (barredAt k r) (turnedOn c u k r x)
+  on-allowed (next s) h =
+      let p = s .pair in
+      proceeds-allowed p (turnBy c u k r p (s .spot))
+      (decoded-allowed (barredAt k r) (standsAt u) (decode (tableFrom c (p .base) (p .end)) (s .spot .cell)) (s .spot) h)
+  on-allowed (over o) h = tt
+
+  course-allowed : (n : ℕ) (m : Spot) → Allowed (barredAt k r) m → AllowedProgress (barredAt k r) (course c u k r n m)
+  unfolding course
+  course-allowed zero m h = h
+  course-allowed (suc n) m h = on-allowed (course c u k r n m) (course-allowed n m h)
+
+-- before every mark the letter then obeyed is for the caller
+pub only-allowed : OnlyAllowed
+only-allowed c u k r a n v i o j s h e =
+    subst (AllowedProgress (barredAt k r)) e (course-allowed c u k r j (startsAt a n v i o) (record { letter = h; callers = tt })) .letter

@@ -1,4 +1,5 @@
 pub mod Cells
+pub mod Allowed
 pub mod Loop
 pub mod Runs
 pub mod Claims

@@ -32,15 +32,15 @@ use Rattle.interpreter.proofs.Cells.{Inner, Within}
 less-one : (r : ℕ) → suc r - 1 ≡ r
 less-one r = omega arith
 
-module _ (at : ℕ → ℕ → Decoded) (stands : ℕ → Bool) where
+module _ (at : ℕ → ℕ → Decoded) (stands barred : ℕ → Bool) where
   -- one turn from a spot
   abbrev pub oneTurn : Spot → Turn
-  oneTurn m = decodedTurn stands (at (m .letter) (m .cell)) m
+  oneTurn m = decodedTurn stands barred (at (m .letter) (m .cell)) m
 
   -- what the machine comes to from there, and after a turn
   unfoldable pub runAt : Spot → Outcome
   unfolding run arrive
-  runAt m = run at stands (m .left) (arrive at stands (m .frames) (m .letter) (m .cell)) (m .state)
+  runAt m = run at stands barred (m .left) (arrive at stands barred (m .frames) (m .letter) (m .cell)) (m .state)
 
   -- what the machine comes to after a turn
   unfoldable pub after : Turn → Outcome
@@ -49,51 +49,52 @@ module _ (at : ℕ → ℕ → Decoded) (stands : ℕ → Bool) where
   after (enters m) = runAt m
   after (finishes o) = o
 
-module _ (at : ℕ → ℕ → Decoded) (stands : ℕ → Bool) where
-  back-run : (fr : List Frame) (t : Bool) (s : State) (r : ℕ) → run at stands r (return at stands fr t) s ≡ after at stands (back fr t s r)
+module _ (at : ℕ → ℕ → Decoded) (stands barred : ℕ → Bool) where
+  back-run : (fr : List Frame) (t : Bool) (s : State) (r : ℕ) → run at stands barred r (return at stands barred fr t) s ≡ after at stands barred (back fr t s r)
   unfolding after runAt return arrive run
   back-run [] t s zero = refl
   back-run [] t s (suc r) = refl
   back-run (f ∷ fr) t s r = refl
 
   effect-run : (e : Effect) (l q n : ℕ) (fr : List Frame) (s : State) (r : ℕ)
-      → onEffect e s (suc r) (λ s′. run at stands r (arrive at stands fr l n) s′) ≡ after at stands (effectTurn e n (spot l q fr s (suc r)))
+      → onEffect e s (suc r) (λ s′. run at stands barred r (arrive at stands barred fr l n) s′) ≡ after at stands barred (effectTurn e n (spot l q fr s (suc r)))
   unfolding after runAt onEffect
   effect-run (goes s′) l q n fr s r = rw less-one
   effect-run (stops k) l q n fr s r = refl
 
   verdict-run : (v : Verdict) (l q n f : ℕ) (fr : List Frame) (s : State) (r : ℕ)
-      → onVerdict v s (suc r) (λ u s′. run at stands r (arrive at stands fr l (pick u n f)) s′) ≡ after at stands (verdictTurn v n f (spot l q fr s (suc r)))
+      → onVerdict v s (suc r) (λ u s′. run at stands barred r (arrive at stands barred fr l (pick u n f)) s′) ≡ after at stands barred (verdictTurn v n f (spot l q fr s (suc r)))
   unfolding after runAt onVerdict
   verdict-run (answers u s′) l q n f fr s r = rw less-one
   verdict-run (stalls k) l q n f fr s r = refl
 
-  call-run : (u : Bool) (a l q n f : ℕ) (fr : List Frame) (s : State) (r : ℕ)
-      → onCall (present u) (length fr) (λ e. stopped e s (suc r))
-      (λ _. run at stands r (arrive at stands (record { letter = l; next = n; exit = f } ∷ fr) a codeStart) s)
-      ≡ after at stands (callTurn u a n f (spot l q fr s (suc r)))
+  call-run : (u b : Bool) (a l q n f : ℕ) (fr : List Frame) (s : State) (r : ℕ)
+      → onCall (present u) b (length fr) (λ e. stopped e s (suc r))
+      (λ _. run at stands barred r (arrive at stands barred (record { letter = l; next = n; exit = f } ∷ fr) a codeStart) s)
+      ≡ after at stands barred (callTurn u b a n f (spot l q fr s (suc r)))
   unfolding after runAt onCall
-  call-run false a l q n f fr s r = refl
-  call-run true a l q n f fr s r = go (ltb (length fr) maxCalls)
+  call-run false b a l q n f fr s r = refl
+  call-run true true a l q n f fr s r = refl
+  call-run true false a l q n f fr s r = go (ltb (length fr) maxCalls)
     where
       go : (v : Bool)
-          → cond v (run at stands r (arrive at stands (record { letter = l; next = n; exit = f } ∷ fr) a codeStart) s) (stopped DeepCalls s (suc r))
-          ≡ after at stands
+          → cond v (run at stands barred r (arrive at stands barred (record { letter = l; next = n; exit = f } ∷ fr) a codeStart) s) (stopped DeepCalls s (suc r))
+          ≡ after at stands barred
           (cond v (enters (spot a codeStart (record { letter = l; next = n; exit = f } ∷ fr) s (suc r - 1))) (finishes (stopped DeepCalls s (suc r))))
       go true = rw less-one
       go false = refl
 
   instruction-run : (i : Instruction) (l q : ℕ) (fr : List Frame) (s : State) (r : ℕ)
-      → turn at stands r (run at stands r) l fr i s ≡ after at stands (instructionTurn stands i (spot l q fr s (suc r)))
+      → turn at stands barred r (run at stands barred r) l fr i s ≡ after at stands barred (instructionTurn stands barred i (spot l q fr s (suc r)))
   unfolding after runAt turn
   instruction-run (transfer n) l q fr s r = rw less-one
   instruction-run fail l q fr s r = rw less-one (back-run fr false s r)
   instruction-run (operateAt o n) l q fr s r = effect-run (perform o s) l q n fr s r
   instruction-run (testAt t n f) l q fr s r = verdict-run (ask l t s) l q n f fr s r
-  instruction-run (callAt a n f) l q fr s r = call-run (stands a) a l q n f fr s r
+  instruction-run (callAt a n f) l q fr s r = call-run (stands a) (barred a) a l q n f fr s r
 
   decoded-run : (x : Decoded) (l q : ℕ) (fr : List Frame) (s : State) (r : ℕ)
-      → run at stands r (arrived x l fr (λ _. return at stands fr true)) s ≡ after at stands (decodedTurn stands x (spot l q fr s r))
+      → run at stands barred r (arrived x l fr (λ _. return at stands barred fr true)) s ≡ after at stands barred (decodedTurn stands barred x (spot l q fr s r))
   unfolding after arrived run
   decoded-run last l q fr s r = back-run fr true s r
   decoded-run damaged l q fr s zero = refl
@@ -102,7 +103,7 @@ module _ (at : ℕ → ℕ → Decoded) (stands : ℕ → Bool) where
   decoded-run (code i) l q fr s (suc r) = rw (ne-eqb (suc r) 0 (λ e. omega arith)) (instruction-run i l q fr s r)
 
   -- a turn does not change what the machine comes to
-  pub turn-run : (m : Spot) → runAt at stands m ≡ after at stands (oneTurn at stands m)
+  pub turn-run : (m : Spot) → runAt at stands barred m ≡ after at stands barred (oneTurn at stands barred m)
   unfolding runAt arrive
   turn-run m = decoded-run (at (m .letter) (m .cell)) (m .letter) (m .cell) (m .frames) (m .state) (m .left)
 
@@ -251,11 +252,12 @@ module _ (n : ℕ) (o : List ℕ) where
   verdict-sound (answers u s) a b m f p i j h k = onward-sound (pick u a b) s m f p (picked u i j) h
   verdict-sound (stalls e) a b m f p i j h k = (over-of m f, k)
 
-  call-sound : (u : Bool) (a x y : ℕ) (m : Spot) → Fit n o m → 0 < m .left → Inner x → Inner y → (u ≡ true → a < maxLetters)
-      → Sound n o (toGo m) (callTurn u a x y m)
+  call-sound : (u b : Bool) (a x y : ℕ) (m : Spot) → Fit n o m → 0 < m .left → Inner x → Inner y → (u ≡ true → a < maxLetters)
+      → Sound n o (toGo m) (callTurn u b a x y m)
   unfolding onCall
-  call-sound false a x y m f p i j h = (over-of m f, λ z. omega arith)
-  call-sound true a x y m f p i j h = go (ltb (length (m .frames)) maxCalls) refl
+  call-sound false b a x y m f p i j h = (over-of m f, λ z. omega arith)
+  call-sound true true a x y m f p i j h = (over-of m f, λ z. omega arith)
+  call-sound true false a x y m f p i j h = go (ltb (length (m .frames)) maxCalls) refl
     where
       go : (v : Bool) → ltb (length (m .frames)) maxCalls ≡ v
           → Sound n o (toGo m)
@@ -267,8 +269,8 @@ module _ (n : ℕ) (o : List ℕ) where
           (record { letter = h refl; cell = record { first = omega arith; final = omega arith }; callers = (b, f .callers); calls = omega arith; lent = f .lent; spent = omega arith }, omega arith)
       go false e = (over-of m f, λ z. omega arith)
 
-  module _ (stands : ℕ → Bool) (letters : (a : ℕ) → stands a ≡ true → a < maxLetters) where
-    instruction-sound : (i : Instruction) (m : Spot) → Within (code i) → Fit n o m → 0 < m .left → Sound n o (toGo m) (instructionTurn stands i m)
+  module _ (stands barred : ℕ → Bool) (letters : (a : ℕ) → stands a ≡ true → a < maxLetters) where
+    instruction-sound : (i : Instruction) (m : Spot) → Within (code i) → Fit n o m → 0 < m .left → Sound n o (toGo m) (instructionTurn stands barred i m)
     unfolding Within
     instruction-sound (transfer q) m w f p = onward-sound q (m .state) m f p w (f .lent)
     instruction-sound fail m w f p =
@@ -277,15 +279,15 @@ module _ (n : ℕ) (o : List ℕ) where
         effect-sound (perform x (m .state)) q m f p w (lent-performed o x (m .state) tt (f .lent)) (halting-performed x (m .state))
     instruction-sound (testAt t a b) m w f p =
         verdict-sound (ask (m .letter) t (m .state)) a b m f p (w .0) (w .1) (lent-asked o (m .letter) t (m .state) (f .lent)) (stalling-asked (m .letter) t (m .state))
-    instruction-sound (callAt a x y) m w f p = call-sound (stands a) a x y m f p (w .0) (w .1) (letters a)
+    instruction-sound (callAt a x y) m w f p = call-sound (stands a) (barred a) a x y m f p (w .0) (w .1) (letters a)
 
     due-sound : (u : Bool) (i : Instruction) (m : Spot) → Within (code i) → Fit n o m → eqb (m .left) 0 ≡ u
-        → Sound n o (toGo m) (cond u (halt Spent m) (instructionTurn stands i m))
+        → Sound n o (toGo m) (cond u (halt Spent m) (instructionTurn stands barred i m))
     due-sound true i m w f e = (over-of m f, λ z. omega arith)
     due-sound false i m w f e = let k : m .left ≡ 0 → ⊥ = eqb-false _ _ e in instruction-sound i m w f (omega arith)
 
     -- a turn from a spot that fits is sound
-    pub decoded-sound : (x : Decoded) (m : Spot) → Within x → Fit n o m → Sound n o (toGo m) (decodedTurn stands x m)
+    pub decoded-sound : (x : Decoded) (m : Spot) → Within x → Fit n o m → Sound n o (toGo m) (decodedTurn stands barred x m)
     decoded-sound last m w f =
         back-sound (toGo m) (m .frames) true (m .state) (m .left) (f .callers) (f .calls) (f .lent) (f .spent) (omega arith)
     decoded-sound damaged m w f = (over-of m f, λ z. omega arith)
@@ -311,10 +313,11 @@ verdict-stays : (v : Verdict) (a b : ℕ) (m : Spot) → Stays (m .letter) (verd
 verdict-stays (answers u s) a b m = refl
 verdict-stays (stalls e) a b m = tt
 
-call-stays : (u : Bool) (a x y : ℕ) (m : Spot) → Stays (m .letter) (callTurn u a x y m)
+call-stays : (u b : Bool) (a x y : ℕ) (m : Spot) → Stays (m .letter) (callTurn u b a x y m)
 unfolding onCall
-call-stays false a x y m = tt
-call-stays true a x y m = go (ltb (length (m .frames)) maxCalls)
+call-stays false b a x y m = tt
+call-stays true true a x y m = tt
+call-stays true false a x y m = go (ltb (length (m .frames)) maxCalls)
   where
     go : (v : Bool)
         → Stays (m .letter)
@@ -322,20 +325,20 @@ call-stays true a x y m = go (ltb (length (m .frames)) maxCalls)
     go true = tt
     go false = tt
 
-module _ (stands : ℕ → Bool) where
-  instruction-stays : (i : Instruction) (m : Spot) → Stays (m .letter) (instructionTurn stands i m)
+module _ (stands barred : ℕ → Bool) where
+  instruction-stays : (i : Instruction) (m : Spot) → Stays (m .letter) (instructionTurn stands barred i m)
   instruction-stays (transfer q) m = refl
   instruction-stays fail m = back-stays (m .letter) (m .frames) false (m .state) (m .left - 1)
   instruction-stays (operateAt x q) m = effect-stays (perform x (m .state)) q m
   instruction-stays (testAt t a b) m = verdict-stays (ask (m .letter) t (m .state)) a b m
-  instruction-stays (callAt a x y) m = call-stays (stands a) a x y m
+  instruction-stays (callAt a x y) m = call-stays (stands a) (barred a) a x y m
 
   -- any turn
-  pub decoded-stays : (x : Decoded) (m : Spot) → Stays (m .letter) (decodedTurn stands x m)
+  pub decoded-stays : (x : Decoded) (m : Spot) → Stays (m .letter) (decodedTurn stands barred x m)
   decoded-stays last m = back-stays (m .letter) (m .frames) true (m .state) (m .left)
   decoded-stays damaged m = tt
   decoded-stays (code i) m = go (eqb (m .left) 0)
     where
-      go : (u : Bool) → Stays (m .letter) (cond u (halt Spent m) (instructionTurn stands i m))
+      go : (u : Bool) → Stays (m .letter) (cond u (halt Spent m) (instructionTurn stands barred i m))
       go true = tt
       go false = instruction-stays i m

@@ -9,12 +9,12 @@ use lib.Dec.{eqb, ltb}
 use lib.IntN.{ℤ}
 use lib.ListN.{length, getD}
 use borrow.Author.Tests.{ltb-true, ltb-false, lt-ltb, eq-eqb, ne-eqb, eqb-true, eqb-false}
-use Rattle.language.specs.declared.Ending.the-variants.{Damaged}
+use Rattle.language.specs.declared.Ending.the-variants.{StewardCall}
 use Rattle.language.specs.Answers.{endingNumber}
 use Rattle.language.specs.Limits.{maxLetters}
 use Rattle.language.specs.Meaning.{Outcome, ended, stopped}
 use Rattle.language.specs.Statements.{Lent}
-use Rattle.language.specs.Tables.{decodeAt, standsAt}
+use Rattle.language.specs.Tables.{decodeAt, standsAt, barredAt}
 use Rattle.book.specs.Replies.{replied, reported}
 use Rattle.operands.specs.declared.Machine.{Machine}
 use Rattle.operands.specs.Loop.{Turn, continues, enters, finishes}
@@ -25,12 +25,15 @@ use Rattle.interpreter.specs.declared.cycle.Fetched.{Fetched}
 use Rattle.interpreter.specs.Runs.{Counted, figuresOf, Driven}
 use Rattle.interpreter.specs.Fetching.{fetched}
 use Rattle.interpreter.proofs.Cells.{decode-within}
+use Rattle.interpreter.proofs.Allowed.{Allowed, AllowedTurn, decoded-allowed}
 use Rattle.interpreter.proofs.Loop.{after, oneTurn, toGo, Fit, Kept, Sound, turn-run, decoded-sound, Stays, decoded-stays}
 
--- what the loop keeps of what the code holds: the run comes to r, within the allowance n, the limits and the output o
+-- what the loop keeps of what the code holds: the run comes to r, within the allowance n, the limits and the output o, and over letters that are for the
+-- caller
 pub record Looping (n : ℕ) (o : List ℕ) (r : Outcome) (h : Held) : Type 0 where
-  pub comes : after (decodeAt (h .cells) (h .used)) (standsAt (h .used)) (outcome h) ≡ r
+  pub comes : after (decodeAt (h .cells) (h .used)) (standsAt (h .used)) (barredAt (h .marks) (h .role)) (outcome h) ≡ r
   pub kept : Kept n o (outcome h)
+  pub allowed : AllowedTurn (barredAt (h .marks) (h .role)) (outcome h)
   pub size : length (h .frames) ≡ frameNumbers
 
 -- the same where the code does not go on: it enters a letter's code, or the run is over
@@ -54,8 +57,9 @@ pub resume : (n : ℕ) (o : List ℕ) (r : Outcome) (h : Held) → Looping n o r
 unfolding after
 resume n o r h loop e =
     record {
-      comes = sym (ap (λ (t : Turn). after (decodeAt (h .cells) (h .used)) (standsAt (h .used)) t) (entering h e)) ∙ loop .comes;
+      comes = sym (ap (λ (t : Turn). after (decodeAt (h .cells) (h .used)) (standsAt (h .used)) (barredAt (h .marks) (h .role)) t) (entering h e)) ∙ loop .comes;
       kept = subst (λ (t : Turn). Kept n o t) (entering h e) (loop .kept);
+      allowed = subst (λ (t : Turn). AllowedTurn (barredAt (h .marks) (h .role)) t) (entering h e) (loop .allowed);
       size = loop .size;
     }
 
@@ -68,6 +72,10 @@ kept-of n o g (finishes (stopped k s r)) h = h
 -- where it goes on, the spot fits
 pub fit-of : (n : ℕ) (o : List ℕ) (h : Held) → h .machine .state ≡ 0 → Kept n o (outcome h) → Fit n o (spotOf h)
 fit-of n o h e k = subst (λ (t : Turn). Kept n o t) (going h e) k
+
+-- and its letter is for the caller
+pub allowed-of : (n : ℕ) (o : List ℕ) (r : Outcome) (h : Held) → Looping n o r h → h .machine .state ≡ 0 → Allowed (barredAt (h .marks) (h .role)) (spotOf h)
+allowed-of n o r h loop e = subst (λ (t : Turn). AllowedTurn (barredAt (h .marks) (h .role)) t) (going h e) (loop .allowed)
 
 beyond : (u : List ℕ) (a : ℕ) → length u ≤ a → getD u a 0 ≡ 0
 beyond [] a h = refl
@@ -103,35 +111,44 @@ module _ (n : ℕ) (o : List ℕ) (r : Outcome) (h : Held) (h′ : Held) (p : Fe
     (pair : p ≡ fetched (h .used) (h .machine .letter)) (turned-by : outcome h′ ≡ dueAt (h .cells) (p .base) (p .end) h)
     (letters : length (h .used) ≡ maxLetters) (counted : Counted (h .used)) where
   -- over the pair of the letter's table, it is the table machine's turn
-  turned : outcome h′ ≡ oneTurn (decodeAt (h .cells) (h .used)) (standsAt (h .used)) (spotOf h)
+  turned : outcome h′ ≡ oneTurn (decodeAt (h .cells) (h .used)) (standsAt (h .used)) (barredAt (h .marks) (h .role)) (spotOf h)
   turned = turned-by ∙ ap (λ (x : Fetched). dueAt (h .cells) (x .base) (x .end) h) pair
 
   -- the letter is the same where the code goes on, so the pair is its
   pub same-pair : h′ .machine .state ≡ 0 → p ≡ fetched (h .used) (h′ .machine .letter)
   same-pair e =
       let d = decodeAt (h .cells) (h .used) (h .machine .letter) (h .machine .at) in
-      let k : h′ .machine .letter ≡ h .machine .letter = subst (λ (t : Turn). Stays (h .machine .letter) t) (sym turned ∙ going h′ e) (decoded-stays (standsAt (h .used)) d (spotOf h)) in
+      let k : h′ .machine .letter ≡ h .machine .letter = subst (λ (t : Turn). Stays (h .machine .letter) t) (sym turned ∙ going h′ e) (decoded-stays (standsAt (h .used)) (barredAt (h .marks) (h .role)) d (spotOf h)) in
       pair ∙ ap (fetched (h .used)) (sym k)
 
-  comes-again : after (decodeAt (h .cells) (h .used)) (standsAt (h .used)) (outcome h′) ≡ r
+  comes-again : after (decodeAt (h .cells) (h .used)) (standsAt (h .used)) (barredAt (h .marks) (h .role)) (outcome h′) ≡ r
   unfolding after
   comes-again =
       let f = decodeAt (h .cells) (h .used) in
       let s = standsAt (h .used) in
-      ap (λ (t : Turn). after f s t) turned ∙ sym (turn-run f s (spotOf h)) ∙ sym (ap (λ (t : Turn). after f s t) (going h goes)) ∙ loop .comes
+      let b = barredAt (h .marks) (h .role) in
+      ap (λ (t : Turn). after f s b t) turned ∙ sym (turn-run f s b (spotOf h)) ∙ sym (ap (λ (t : Turn). after f s b t) (going h goes)) ∙ loop .comes
 
   sound : Sound n o (toGo (spotOf h)) (outcome h′)
   sound =
       subst (λ (t : Turn). Sound n o (toGo (spotOf h)) t) (sym turned)
-      (decoded-sound n o (standsAt (h .used)) (standing (h .used) letters) (decodeAt (h .cells) (h .used) (h .machine .letter) (h .machine .at)) (spotOf h)
+      (decoded-sound n o (standsAt (h .used)) (barredAt (h .marks) (h .role)) (standing (h .used) letters) (decodeAt (h .cells) (h .used) (h .machine .letter) (h .machine .at)) (spotOf h)
       (decode-within _ (counted (h .machine .letter)) (h .machine .at)) (fit-of n o h goes (loop .kept)))
 
+  -- the letter is for the caller, and so is the next
+  allowed-again : AllowedTurn (barredAt (h .marks) (h .role)) (outcome h′)
+  allowed-again =
+      subst (λ (t : Turn). AllowedTurn (barredAt (h .marks) (h .role)) t) (sym turned)
+      (decoded-allowed (barredAt (h .marks) (h .role)) (standsAt (h .used)) (decodeAt (h .cells) (h .used) (h .machine .letter) (h .machine .at)) (spotOf h)
+      (allowed-of n o r h loop goes))
+
   -- it is kept
-  pub again : h′ .cells ≡ h .cells → h′ .used ≡ h .used → length (h′ .frames) ≡ frameNumbers → Looping n o r h′
-  again c u f =
+  pub again : h′ .cells ≡ h .cells → h′ .used ≡ h .used → h′ .marks ≡ h .marks → h′ .role ≡ h .role → length (h′ .frames) ≡ frameNumbers → Looping n o r h′
+  again c u k w f =
       record {
-        comes = rw (c, u) comes-again;
+        comes = rw (c, u, k, w) comes-again;
         kept = kept-of n o (toGo (spotOf h)) (outcome h′) sound;
+        allowed = rw (k, w) allowed-again;
         size = f;
       }
 
@@ -166,13 +183,13 @@ stretch-none h p z e = record { keeps = λ n o r l. l; pair = λ _. e; most = le
 -- and after one more turn
 pub stretch-more : (n : ℕ) (o : List ℕ) (r : Outcome) (h₀ : Held) (p : Fetched) (h h′ : Held) → Stretch h₀ p h → Looping n o r h → h .machine .state ≡ 0
     → outcome h′ ≡ dueAt (h .cells) (p .base) (p .end) h → length (h .used) ≡ maxLetters → Counted (h .used)
-    → h′ .cells ≡ h .cells → h′ .used ≡ h .used → length (h′ .frames) ≡ frameNumbers → Stretch h₀ p h′
-stretch-more n o r h₀ p h h′ st loop z turned letters counted c u f =
+    → h′ .cells ≡ h .cells → h′ .used ≡ h .used → h′ .marks ≡ h .marks → h′ .role ≡ h .role → length (h′ .frames) ≡ frameNumbers → Stretch h₀ p h′
+stretch-more n o r h₀ p h h′ st loop z turned letters counted c u k w f =
     let e = st .pair z in
     let l = falls n o r h h′ p loop z e turned letters counted in
     record {
-      keeps = λ n o r k. again n o r h h′ p (st .keeps n o r k) z e turned letters counted c u f;
-      pair = λ w. same-pair n o r h h′ p loop z e turned letters counted w ∙ ap (λ (x : List ℕ). fetched x (h′ .machine .letter)) (sym u);
+      keeps = λ n o r x. again n o r h h′ p (st .keeps n o r x) z e turned letters counted c u k w f;
+      pair = λ x. same-pair n o r h h′ p loop z e turned letters counted x ∙ ap (λ (x : List ℕ). fetched x (h′ .machine .letter)) (sym u);
       most = omega (arith, l, st .most);
       fewer = λ _. omega (arith, l, st .most);
     }
@@ -219,10 +236,10 @@ module _ (n : ℕ) (o : List ℕ) (r : Outcome) (h : Held) (loop : Looping n o r
       go false true p q k = let e : h .machine .state ≡ 2 = eqb-true _ _ q in absurd (omega arith)
       go false false p q k = ending-known (h .machine .state) (k .1)
 
-  state-le : h .machine .state ≤ endingNumber Damaged
+  state-le : h .machine .state ≤ endingNumber StewardCall
   state-le = go (ltb 2 (h .machine .state)) refl
     where
-      go : (u : Bool) → ltb 2 (h .machine .state) ≡ u → h .machine .state ≤ endingNumber Damaged
+      go : (u : Bool) → ltb 2 (h .machine .state) ≡ u → h .machine .state ≤ endingNumber StewardCall
       go true e = omega (arith, known (ltb-true _ _ e), ending-high (endingOf (h .machine .state)))
       go false e = omega (arith, ltb-false 2 (h .machine .state) e)
 
@@ -231,11 +248,11 @@ module _ (n : ℕ) (o : List ℕ) (r : Outcome) (h : Held) (loop : Looping n o r
   unfolding after reported
   reply v =
       go (eqb (h .machine .state) 1) (eqb (h .machine .state) 2) refl refl
-      ∙ ap (λ (x : Outcome). reported v n x) (sym (ap (λ (t : Turn). after (decodeAt (h .cells) (h .used)) (standsAt (h .used)) t) ended-as) ∙ loop .comes)
+      ∙ ap (λ (x : Outcome). reported v n x) (sym (ap (λ (t : Turn). after (decodeAt (h .cells) (h .used)) (standsAt (h .used)) (barredAt (h .marks) (h .role)) t) ended-as) ∙ loop .comes)
     where
       go : (a b : Bool) → eqb (h .machine .state) 1 ≡ a → eqb (h .machine .state) 2 ≡ b
           → replied (figuresOf n (h .machine)) (h .stack) (h .output) (cond (ltb 2 (h .machine .state)) v (h .variables))
-          ≡ reported v n (after (decodeAt (h .cells) (h .used)) (standsAt (h .used)) (ending a b))
+          ≡ reported v n (after (decodeAt (h .cells) (h .used)) (standsAt (h .used)) (barredAt (h .marks) (h .role)) (ending a b))
       go true b p q = let k : h .machine .state ≡ 1 = eqb-true _ _ p in rw k
       go false true p q = let k : h .machine .state ≡ 2 = eqb-true _ _ q in rw k
       go false false p q =

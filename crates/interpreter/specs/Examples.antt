@@ -29,9 +29,13 @@ abbrev pub shown : Progress → List ℕ
 shown (next s) = s .pair .base ∷ s .pair .end ∷ s .spot .letter ∷ s .spot .cell ∷ []
 shown (over o) = outcome o
 
--- after n turns of a run of a with an allowance of 100
+-- after n turns of a run of a with an allowance of 100, where b has the mark k, by a caller with the role r
+abbrev pub heldBy : ℕ → ℕ → ℕ → List ℕ
+heldBy k r n = shown (course cells counts (0 ∷ k ∷ replicate 24 0) r n (startsAt 0 100 [] [] []))
+
+-- where b is open, by a cashier
 abbrev pub held : ℕ → List ℕ
-held n = shown (course cells counts n (startsAt 0 100 [] [] []))
+held n = heldBy 0 0 n
 
 -- each, with what it is
 abbrev pub Hold : List (List ℕ × List ℕ) → Type 0
@@ -42,7 +46,9 @@ Hold ((x, y) ∷ l) = (x ≡ y) × Hold l
 abbrev pub courses : List (List ℕ × List ℕ)
 courses =
     (held 0, 0 ∷ 6 ∷ 0 ∷ 2 ∷ []) ∷ (held 1, 250 ∷ 4 ∷ 1 ∷ 2 ∷ []) ∷ (held 2, 250 ∷ 4 ∷ 1 ∷ 4 ∷ []) ∷ (held 3, 0 ∷ 6 ∷ 0 ∷ 4 ∷ [])
-    ∷ (held 4, 0 ∷ 6 ∷ 0 ∷ 6 ∷ []) ∷ (held 5, 1 ∷ 97 ∷ []) ∷ (held 6, 1 ∷ 97 ∷ []) ∷ []
+    ∷ (held 4, 0 ∷ 6 ∷ 0 ∷ 6 ∷ []) ∷ (held 5, 1 ∷ 97 ∷ []) ∷ (held 6, 1 ∷ 97 ∷ [])
+    -- where b is a steward's, a cashier's run stops at the call, and a steward's enters b
+    ∷ (heldBy 1 0 0, 0 ∷ 6 ∷ 0 ∷ 2 ∷ []) ∷ (heldBy 1 0 1, 34 ∷ 100 ∷ []) ∷ (heldBy 1 1 0, 0 ∷ 6 ∷ 0 ∷ 2 ∷ []) ∷ (heldBy 1 1 1, 250 ∷ 4 ∷ 1 ∷ 2 ∷ []) ∷ []
 
 -- where a turn comes to: the letter and the due cell
 abbrev pub placed : Turn → List ℕ
@@ -52,7 +58,7 @@ placed (finishes o) = outcome o
 
 -- at most nine turns from cell q of a, over counts u and with the pair of these two
 abbrev pub from : List ℕ → ℕ → ℕ → ℕ → List ℕ
-from u base end q = placed (goesOn cells u (record { base = base; end = end }) 9 (spot 0 q [] (start [] [] []) 100))
+from u base end q = placed (goesOn cells u [] 0 (record { base = base; end = end }) 9 (spot 0 q [] (start [] [] []) 100))
 
 -- The pair says which table is obeyed, whatever the store's counts are: a's to its last cell, where a return is due; a's at its last `)`, where one is due
 -- too; a's at its call; a's with a count too few, which is damage; b's in place of a's.

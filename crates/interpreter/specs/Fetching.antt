@@ -11,7 +11,7 @@ use Rattle.language.specs.Layout.{codeStart}
 use Rattle.language.specs.Effects.{start}
 use Rattle.language.specs.Meaning.{Outcome}
 use Rattle.language.specs.Machine.{Decoded, last, damaged, code, transfer, fail, operateAt, testAt, callAt, decode, arrive, run}
-use Rattle.language.specs.Tables.{tableFrom, decodeAt, standsAt}
+use Rattle.language.specs.Tables.{tableFrom, decodeAt, standsAt, barredAt}
 use Rattle.operands.specs.declared.Machine.{Machine}
 use Rattle.operands.specs.Loop.{Spot, spot, Turn, continues, enters, finishes, decodedTurn}
 use Rattle.dispatch.specs.Turning.{Turning}
@@ -21,10 +21,12 @@ use Rattle.interpreter.specs.declared.cycle.Fetched.{Fetched}
 abbrev pub fetched : List ℕ → ℕ → Fetched
 fetched u a = record { base = a * maxCells; end = getD u a 0 }
 
--- A mark can be obeyed: a turn can be made over the table that was fetched, and "the fetched pair is the store's for the letter then obeyed".
-pub record Obeying (u : List ℕ) (p : Fetched) (m : Machine) (f o : List ℕ) : Type 0 where
+-- A mark can be obeyed: a turn can be made over the table that was fetched, "the fetched pair is the store's for the letter then obeyed", and that letter,
+-- by its mark of the marks k, is for a caller with the role r (document 02, U7).
+pub record Obeying (u k : List ℕ) (r : ℕ) (p : Fetched) (m : Machine) (f o : List ℕ) : Type 0 where
   pub turning : Turning (p .base) (p .end) m f o
   pub pair : p ≡ fetched u (m .letter)
+  pub allowed : barredAt k r (m .letter) ≡ false
 
 -- ── a run ───────────────────────────────────────────────────────────────────────────────────────
 
@@ -38,11 +40,11 @@ pub data Progress : Type 0 where
   next : Stand → Progress
   over : Outcome → Progress
 
--- over a store with the cells c and the used-cell counts u
-module _ (c : List ℤ) (u : List ℕ) where
+-- over a store with the cells c, the used-cell counts u and the marks k, for a caller with the role r
+module _ (c : List ℤ) (u k : List ℕ) (r : ℕ) where
   -- the turn at the due cell of the table that was fetched
   abbrev pub turnBy : Fetched → Spot → Turn
-  turnBy p m = decodedTurn (standsAt u) (decode (tableFrom c (p .base) (p .end)) (m .cell)) m
+  turnBy p m = decodedTurn (standsAt u) (barredAt k r) (decode (tableFrom c (p .base) (p .end)) (m .cell)) m
 
   -- a letter's code is entered: its pair is fetched
   abbrev pub entered : Spot → Progress
@@ -69,7 +71,7 @@ module _ (c : List ℤ) (u : List ℕ) where
   comesTo (over o) = o
   comesTo (next s) =
       let m = s .spot in
-      run (decodeAt c u) (standsAt u) (m .left) (arrive (decodeAt c u) (standsAt u) (m .frames) (m .letter) (m .cell)) (m .state)
+      run (decodeAt c u) (standsAt u) (barredAt k r) (m .left) (arrive (decodeAt c u) (standsAt u) (barredAt k r) (m .frames) (m .letter) (m .cell)) (m .state)
 
 -- where a run of letter a starts, with allowance n, variables v, inputs i and output o
 abbrev pub startsAt : ℕ → ℕ → List ℤ → List ℤ → List ℕ → Spot
@@ -94,6 +96,7 @@ onTurn (enters m) k = enters m
 onTurn (finishes o) k = finishes o
 
 -- over a store, with the pair p: at most n turns from a spot, until a call or a return is due
-unfoldable pub goesOn : List ℤ → List ℕ → Fetched → ℕ → Spot → Turn
-goesOn c u p zero m = continues m
-goesOn c u p (suc n) m = cond (leaves (decode (tableFrom c (p .base) (p .end)) (m .cell))) (continues m) (onTurn (turnBy c u p m) (goesOn c u p n))
+unfoldable pub goesOn : List ℤ → List ℕ → List ℕ → ℕ → Fetched → ℕ → Spot → Turn
+goesOn c u k r p zero m = continues m
+goesOn c u k r p (suc n) m =
+    cond (leaves (decode (tableFrom c (p .base) (p .end)) (m .cell))) (continues m) (onTurn (turnBy c u k r p m) (goesOn c u k r p n))

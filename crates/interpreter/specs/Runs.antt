@@ -1,17 +1,17 @@
 -- What the cycle requires and ensures.
 use mathlib.Core.Path.{_≡_}
-use mathlib.Core.Bool.{cond}
+use mathlib.Core.Bool.{false, cond}
 use mathlib.Core.List.{List}
 use Prim.Native.Nat.{ℕ, _-_, _≤_, _<_}
 use lib.IntN.{ℤ}
 use lib.ListN.{length, getD}
 use lib.Dec.{ltb, eqb}
-use Rattle.language.specs.declared.Ending.the-variants.{Damaged}
+use Rattle.language.specs.declared.Ending.the-variants.{StewardCall}
 use Rattle.language.specs.Answers.{endingNumber}
 use Rattle.language.specs.Limits.{maxLetters, maxCells, maxHeight}
 use Rattle.language.specs.Effects.{start}
 use Rattle.language.specs.Meaning.{Outcome}
-use Rattle.language.specs.Tables.{execute}
+use Rattle.language.specs.Tables.{barredAt, execute}
 use Rattle.book.specs.declared.Report.{Report}
 use Rattle.book.specs.Replies.{replied, reported}
 use Rattle.operands.specs.declared.Machine.{Machine}
@@ -20,9 +20,10 @@ use Rattle.operands.specs.declared.Machine.{Machine}
 abbrev pub Counted : List ℕ → Type 0
 Counted u = (a : ℕ) → getD u a 0 ≤ maxCells
 
--- a run of the letter with index a can be made over the used-cell counts u and the list's places p
-pub record Startable (a : ℕ) (u : List ℕ) (p : List ℤ) : Type 0 where
+-- a run of the letter with index a can be made over the used-cell counts u, the marks k and the list's places p by a caller with the role r
+pub record Startable (a : ℕ) (u k : List ℕ) (r : ℕ) (p : List ℤ) : Type 0 where
   pub letter : a < maxLetters
+  pub allowed : barredAt k r a ≡ false
   pub letters : length u ≡ maxLetters
   pub counted : Counted u
   pub places : length p ≡ maxHeight
@@ -32,9 +33,10 @@ pub record Filling (p s : List ℤ) : Type 0 where
   pub places : length p ≡ maxHeight
   pub slots : length s ≡ maxHeight
 
--- What a run comes to: of the letter with index a over the cells c and the used-cell counts u, with allowance n, variables v, inputs i and output o.
-abbrev pub ran : List ℤ → List ℕ → ℕ → ℕ → List ℤ → List ℤ → List ℕ → Outcome
-ran c u a n v i o = execute c u a n (start v i o)
+-- What a run comes to: of the letter with index a over the cells c, the used-cell counts u and the marks k, by a caller with the role r, with allowance
+-- n, variables v, inputs i and output o.
+abbrev pub ran : List ℤ → List ℕ → List ℕ → ℕ → ℕ → ℕ → List ℤ → List ℤ → List ℕ → Outcome
+ran c u k r a n v i o = execute c u k r a n (start v i o)
 
 -- the figures that the machine's numbers come to once its state is not 0, after an allowance of n
 abbrev pub figuresOf : ℕ → Machine → Report
@@ -51,7 +53,7 @@ figuresOf n m =
 -- they can be reported
 pub record Over (n : ℕ) (m : Machine) : Type 0 where
   pub left : m .left ≤ n
-  pub state : m .state ≤ endingNumber Damaged
+  pub state : m .state ≤ endingNumber StewardCall
 
 -- The run r is over with the machine's numbers m, the variables w, the list's places p and the output o. "Only a finished run changes variables; any
 -- other leaves them as before it."

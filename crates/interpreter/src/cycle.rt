@@ -46,11 +46,13 @@ fn copy_out(list: &mut [i32], slots: &[i32; HEIGHT])
     }
 }
 
-// A mark is obeyed, or a return made: "before every mark the fetched pair is the store's for the letter then obeyed".
+// A mark is obeyed, or a return made: "before every mark the fetched pair is the store's for the letter then obeyed", and that letter is for the caller.
 fn obey<'a>(
     m: Machine,
     cells: &'a [i32; STORE_CELLS],
     used: &'a [usize; LETTERS],
+    marks: &'a [u32; LETTERS],
+    role: u32,
     pair: Fetched,
     inputs: &[i32],
     frames: &mut [u32; FRAMES],
@@ -59,17 +61,19 @@ fn obey<'a>(
     list: &mut [i32; HEIGHT],
     output: &mut [u8],
 ) -> Machine
-    requires { ⌜ Obeying (now used) pair m (now frames) (now output) ⌝ }
+    requires { ⌜ Obeying (now used) (now marks) role pair m (now frames) (now output) ⌝ }
     ensures { λ r. ⌜ Turned (pair .base) (pair .end)
-        (held m (now (cells .entry)) (now (used .entry)) (now (inputs .entry)) (now (frames .entry)) (now (counts .entry))
+        (held m (now (cells .entry)) (now (used .entry)) (now (marks .entry)) role (now (inputs .entry)) (now (frames .entry)) (now (counts .entry))
         (now (vars .entry)) (now (list .entry)) (now (output .entry)))
-        (held r (now (cells .entry)) (now (used .entry)) (now (inputs .entry)) (now (frames .exit)) (now (counts .exit))
+        (held r (now (cells .entry)) (now (used .entry)) (now (marks .entry)) role (now (inputs .entry)) (now (frames .exit)) (now (counts .exit))
         (now (vars .exit)) (now (list .exit)) (now (output .exit))) ⌝ }
 {
     turn(
         m,
         cells,
         used,
+        marks,
+        role,
         pair.base,
         pair.end,
         inputs,
@@ -86,6 +90,8 @@ fn obey<'a>(
 pub fn drive<'a>(
     cells: &'a [i32; STORE_CELLS],
     used: &'a [usize; LETTERS],
+    marks: &'a [u32; LETTERS],
+    role: u32,
     inputs: &[i32],
     letter: usize,
     allowance: usize,
@@ -93,9 +99,9 @@ pub fn drive<'a>(
     list: &mut [i32],
     output: &mut [u8],
 ) -> Machine
-    requires { ⌜ Startable letter (now used) (now list) ⌝ }
+    requires { ⌜ Startable letter (now used) (now marks) role (now list) ⌝ }
     ensures { λ r. ⌜ Driven allowance
-        (ran (now (cells .entry)) (now (used .entry)) letter allowance (now (vars .entry)) (now (inputs .entry)) (now (output .entry)))
+        (ran (now (cells .entry)) (now (used .entry)) (now (marks .entry)) role letter allowance (now (vars .entry)) (now (inputs .entry)) (now (output .entry)))
         r (now (vars .exit)) (now (list .exit)) (now (output .exit)) ⌝ }
 {
     let mut frames = [0u32; FRAMES];
@@ -119,6 +125,8 @@ pub fn drive<'a>(
                 m,
                 cells,
                 used,
+                marks,
+                role,
                 pair,
                 inputs,
                 &mut frames,

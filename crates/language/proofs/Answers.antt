@@ -1,12 +1,10 @@
 -- The numbers of refusals and endings: no ending refuses, and no refusal is 0.
-use mathlib.Core.Path.{_≡_, refl}
-use Prim.Native.Nat.{_≤_}
-use native.Mathlib.Omega.{arith}
-use mathlib.Core.Bool.{false}
+use mathlib.Core.Path.{_≡_, refl, sym, ap, _∙_}
+use mathlib.Core.Bool.{true, false, false≢true}
 use Rattle.language.specs.declared.Refusal.{Refusal}
-use Rattle.language.specs.declared.Refusal.the-variants.{NoSuchLetter, LongText, StrayMark, Deep, BadCounter, BadConstant, Unfinished, TableFull, ManyCounters, NotStanding, BadInput, BadList, BadStore, BadLine}
+use Rattle.language.specs.declared.Refusal.the-variants.{NoSuchLetter, LongText, StrayMark, Deep, BadCounter, BadConstant, Unfinished, TableFull, ManyCounters, NotStanding, BadInput, BadList, BadStore, BadLine, NotForCashiers, BadMark}
 use Rattle.language.specs.declared.Ending.{Ending}
-use Rattle.language.specs.declared.Ending.the-variants.{Finished, Spent, ListEmpty, ListFull, Range, ZeroDivisor, NoInput, PaperOut, NoText, DeepCalls, Damaged}
+use Rattle.language.specs.declared.Ending.the-variants.{Finished, Spent, ListEmpty, ListFull, Range, ZeroDivisor, NoInput, PaperOut, NoText, DeepCalls, Damaged, StewardCall}
 use Rattle.language.specs.Answers.{refusalNumber, isRefusal, endingNumber}
 
 -- no ending's number refuses
@@ -22,24 +20,27 @@ ending-no-refusal PaperOut = refl
 ending-no-refusal NoText = refl
 ending-no-refusal DeepCalls = refl
 ending-no-refusal Damaged = refl
+ending-no-refusal StewardCall = refl
 
--- a refusal's number is 1 to 14
-pub refusal-bounds : (r : Refusal) → (1 ≤ refusalNumber r) × (refusalNumber r ≤ 14)
-refusal-bounds NoSuchLetter = (omega arith, omega arith)
-refusal-bounds LongText = (omega arith, omega arith)
-refusal-bounds StrayMark = (omega arith, omega arith)
-refusal-bounds Deep = (omega arith, omega arith)
-refusal-bounds BadCounter = (omega arith, omega arith)
-refusal-bounds BadConstant = (omega arith, omega arith)
-refusal-bounds Unfinished = (omega arith, omega arith)
-refusal-bounds TableFull = (omega arith, omega arith)
-refusal-bounds ManyCounters = (omega arith, omega arith)
-refusal-bounds NotStanding = (omega arith, omega arith)
-refusal-bounds BadInput = (omega arith, omega arith)
-refusal-bounds BadList = (omega arith, omega arith)
-refusal-bounds BadStore = (omega arith, omega arith)
-refusal-bounds BadLine = (omega arith, omega arith)
+-- every refusal's number refuses
+pub refusal-refuses : (r : Refusal) → isRefusal (refusalNumber r) ≡ true
+refusal-refuses NoSuchLetter = refl
+refusal-refuses LongText = refl
+refusal-refuses StrayMark = refl
+refusal-refuses Deep = refl
+refusal-refuses BadCounter = refl
+refusal-refuses BadConstant = refl
+refusal-refuses Unfinished = refl
+refusal-refuses TableFull = refl
+refusal-refuses ManyCounters = refl
+refusal-refuses NotStanding = refl
+refusal-refuses BadInput = refl
+refusal-refuses BadList = refl
+refusal-refuses BadStore = refl
+refusal-refuses BadLine = refl
+refusal-refuses NotForCashiers = refl
+refusal-refuses BadMark = refl
 
 -- no refusal's number is 0
 pub refusal-not-zero : (r : Refusal) → refusalNumber r ≡ 0 → ⊥
-refusal-not-zero r e = let b = refusal-bounds r .0 in omega (arith, b)
+refusal-not-zero r e = false≢true (sym (ap isRefusal e) ∙ refusal-refuses r)

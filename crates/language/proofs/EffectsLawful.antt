@@ -19,7 +19,7 @@ use Rattle.language.specs.Effects.{State, Effect, goes, stops, Verdict, 
 use Rattle.language.specs.Values.{isValue, lawful}
 use Rattle.language.specs.Machine.{Instruction, transfer, fail, operateAt, testAt, callAt, Decoded, last, damaged, code, Kind, isConstant, isPrint, isCounter, isNone, isOperator, isVariable, isCondition, isCall, kind, cell, sound, natural, minus, exitAt, bytesAt, room, mark, early, exactly, decode}
 use Rattle.language.specs.Effects.{start}
-use Rattle.language.specs.Tables.{tableAt, decodeAt, standsAt, execute}
+use Rattle.language.specs.Tables.{tableAt, decodeAt, standsAt, barredAt, execute}
 use Rattle.language.proofs.Tests.{both-true, first-true, second-true}
 use Rattle.language.proofs.MachineInvariants.{Coded, DecodedSo, EffectSo, VerdictSo, OutcomeSo, effect-cond, verdict-cond, letter-keeps}
 
@@ -260,9 +260,9 @@ module _ (t : Table) where
 -- ── running ─────────────────────────────────────────────────────────────────────────────────────
 
 -- A run over any cells leaves its stack, inputs and variables within the values.
-pub lawful-execute : (c : List ℤ) (u : List ℕ) (a n : ℕ) (v i : List ℤ) (o : List ℕ) → lawful v ≡ true → lawful i ≡ true
-    → OutcomeSo Sane (execute c u a n (start v i o))
+pub lawful-execute : (c : List ℤ) (u k : List ℕ) (r a n : ℕ) (v i : List ℤ) (o : List ℕ) → lawful v ≡ true → lawful i ≡ true
+    → OutcomeSo Sane (execute c u k r a n (start v i o))
 unfolding execute start
-lawful-execute c u a n v i o hv hi =
-    letter-keeps Sane LawfulOperation (λ o s k h. sane-performed s h o k) (λ l p s h. sane-asked s h l p) (decodeAt c u) (standsAt u)
+lawful-execute c u k r a n v i o hv hi =
+    letter-keeps Sane LawfulOperation (λ o s k h. sane-performed s h o k) (λ l p s h. sane-asked s h l p) (decodeAt c u) (standsAt u) (barredAt k r)
     (λ l q. lawful-decode (tableAt c u l) q) a n (start v i o) (record { stack = lawful-zeros maxHeight; inputs = hi; variables = hv })

@@ -19,7 +19,7 @@ use Rattle.language.specs.Values.{isValue}
 use Rattle.language.specs.Meaning.{Outcome, ended, stopped}
 use Rattle.language.specs.Machine.{Decoded, last, damaged, code, transfer, fail, operateAt, testAt, callAt}
 use Rattle.language.specs.Effects.{start}
-use Rattle.language.specs.Tables.{decodeAt, standsAt, execute}
+use Rattle.language.specs.Tables.{decodeAt, standsAt, barredAt, execute}
 use Rattle.language.specs.Statements.{Lent, finalState, LentParts}
 use Rattle.language.proofs.MachineInvariants.{DecodedSo, EffectSo, VerdictSo, OutcomeSo, effect-cond, verdict-cond, letter-keeps}
 
@@ -202,6 +202,6 @@ final o (stopped e s r) h = h
 -- Every run over any cells leaves the list and the output so.
 pub lent-parts : LentParts
 unfolding execute
-lent-parts c u a n v i o =
-    final o (execute c u a n (start v i o)) (letter-keeps (Lent o) (λ _. Unit {0}) (lent-performed o) (lent-asked o) (decodeAt c u) (standsAt u) (λ l q. any-decoded _) a n (start v i o)
+lent-parts c u k r a n v i o =
+    final o (execute c u k r a n (start v i o)) (letter-keeps (Lent o) (λ _. Unit {0}) (lent-performed o) (lent-asked o) (decodeAt c u) (standsAt u) (barredAt k r) (λ l q. any-decoded _) a n (start v i o)
     (lent-start o v i))

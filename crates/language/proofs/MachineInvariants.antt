@@ -81,37 +81,38 @@ module _ (P : State → Type 0) where
   outcome-cond true x y h k = h
   outcome-cond false x y h k = k
 
-  on-call : {A : Type 0} (x : Option A) (d : ℕ) (s : State) (r : ℕ) (k : A → Outcome) → P s → ((v : A) → OutcomeSo (k v))
-      → OutcomeSo (onCall x d (λ e. stopped e s r) k)
+  on-call : {A : Type 0} (x : Option A) (b : Bool) (d : ℕ) (s : State) (r : ℕ) (k : A → Outcome) → P s → ((v : A) → OutcomeSo (k v))
+      → OutcomeSo (onCall x b d (λ e. stopped e s r) k)
   unfolding onCall
-  on-call none d s r k p h = p
-  on-call (some v) d s r k p h = outcome-cond (ltb d maxCalls) (k v) (stopped DeepCalls s r) (h v) p
+  on-call none b d s r k p h = p
+  on-call (some v) true d s r k p h = p
+  on-call (some v) false d s r k p h = outcome-cond (ltb d maxCalls) (k v) (stopped DeepCalls s r) (h v) p
 
 -- ── a run ───────────────────────────────────────────────────────────────────────────────────────
 
 module _ (P : State → Type 0) (Q : Operation → Type 0)
     (performs : (o : Operation) (s : State) → Q o → P s → EffectSo P (perform o s))
     (asks : (l : ℕ) (p : Predicate) (s : State) → P s → VerdictSo P (ask l p s))
-    (at : ℕ → ℕ → Decoded) (stands : ℕ → Bool) (coded : (l q : ℕ) → DecodedSo Q (at l q)) where
+    (at : ℕ → ℕ → Decoded) (stands barred : ℕ → Bool) (coded : (l q : ℕ) → DecodedSo Q (at l q)) where
   due-arrived : (d : Decoded) (l : ℕ) (fr : List Frame) (back : Unit {0} → Due) → DecodedSo Q d → DueSo Q (back tt) → DueSo Q (arrived d l fr back)
   unfolding arrived DecodedSo DueSo
   due-arrived last l fr back h k = k
   due-arrived damaged l fr back h k = tt
   due-arrived (code i) l fr back h k = h
 
-  due-return : (fr : List Frame) (t : Bool) → DueSo Q (return at stands fr t)
+  due-return : (fr : List Frame) (t : Bool) → DueSo Q (return at stands barred fr t)
   unfolding return
   due-return [] t = due-over Q t
   due-return (f ∷ fr) t =
-      due-arrived (at (f .letter) (pick t (f .next) (f .exit))) (f .letter) fr (λ _. return at stands fr true)
+      due-arrived (at (f .letter) (pick t (f .next) (f .exit))) (f .letter) fr (λ _. return at stands barred fr true)
       (coded (f .letter) (pick t (f .next) (f .exit))) (due-return fr true)
 
-  due-arrive : (fr : List Frame) (l q : ℕ) → DueSo Q (arrive at stands fr l q)
+  due-arrive : (fr : List Frame) (l q : ℕ) → DueSo Q (arrive at stands barred fr l q)
   unfolding arrive
-  due-arrive fr l q = due-arrived (at l q) l fr (λ _. return at stands fr true) (coded l q) (due-return fr true)
+  due-arrive fr l q = due-arrived (at l q) l fr (λ _. return at stands barred fr true) (coded l q) (due-return fr true)
 
   turn-keeps : (r : ℕ) (go : Due → State → Outcome) (l : ℕ) (fr : List Frame) (i : Instruction) (s : State) → Coded Q i → P s
-      → ((d : Due) (s′ : State) → DueSo Q d → P s′ → OutcomeSo P (go d s′)) → OutcomeSo P (turn at stands r go l fr i s)
+      → ((d : Due) (s′ : State) → DueSo Q d → P s′ → OutcomeSo P (go d s′)) → OutcomeSo P (turn at stands barred r go l fr i s)
   unfolding turn
   turn-keeps r go l fr (transfer n) s c h f = f _ s (due-arrive fr l n) h
   turn-keeps r go l fr fail s c h f = f _ s (due-return fr false) h
@@ -120,17 +121,17 @@ module _ (P : State → Type 0) (Q : Operation → Type 0)
   turn-keeps r go l fr (testAt p n e) s c h f =
       on-verdict P (ask l p s) s (suc r) _ h (asks l p s h) (λ t s′ h′. f _ s′ (due-arrive fr l (pick t n e)) h′)
   turn-keeps r go l fr (callAt a n e) s c h f =
-      on-call P (present (stands a)) (length fr) s (suc r) _ h (λ _. f _ s (due-arrive _ a 2) h)
+      on-call P (present (stands a)) (barred a) (length fr) s (suc r) _ h (λ _. f _ s (due-arrive _ a 2) h)
 
-  run-keeps : (r : ℕ) (d : Due) (s : State) → DueSo Q d → P s → OutcomeSo P (run at stands r d s)
+  run-keeps : (r : ℕ) (d : Due) (s : State) → DueSo Q d → P s → OutcomeSo P (run at stands barred r d s)
   unfolding run DueSo
   run-keeps zero (over t) s k h = h
   run-keeps zero broken s k h = h
   run-keeps zero (due l i fr) s k h = h
   run-keeps (suc r) (over t) s k h = h
   run-keeps (suc r) broken s k h = h
-  run-keeps (suc r) (due l i fr) s k h = turn-keeps r (run at stands r) l fr i s k h (λ d s′ k′ h′. run-keeps r d s′ k′ h′)
+  run-keeps (suc r) (due l i fr) s k h = turn-keeps r (run at stands barred r) l fr i s k h (λ d s′ k′ h′. run-keeps r d s′ k′ h′)
 
   -- from cell 2 of a letter
-  pub letter-keeps : (a n : ℕ) (s : State) → P s → OutcomeSo P (run at stands n (arrive at stands [] a 2) s)
-  letter-keeps a n s h = run-keeps n (arrive at stands [] a 2) s (due-arrive [] a 2) h
+  pub letter-keeps : (a n : ℕ) (s : State) → P s → OutcomeSo P (run at stands barred n (arrive at stands barred [] a 2) s)
+  letter-keeps a n s h = run-keeps n (arrive at stands barred [] a 2) s (due-arrive [] a 2) h

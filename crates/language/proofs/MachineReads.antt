@@ -16,7 +16,7 @@ use Rattle.language.specs.Tokens.{printByte}
 use Rattle.language.specs.Layout.{forward, codeStart}
 use Rattle.language.specs.Machine.{Instruction, fail, operateAt, Decoded, last, code, Kind, isConstant, isPrint, isCounter, isNone, isOperator, isVariable, isCondition, isCall, kind}
 use Rattle.language.specs.Machine.{cell, sound, natural, minus, exitAt, bytesAt, mark, early, exactly, decode, arrive, run}
-use Rattle.language.specs.Tables.{tableAt, execute}
+use Rattle.language.specs.Tables.{tableAt, barredAt, execute}
 use Rattle.language.specs.Statements.{Alike, ReadsUsed}
 use Rattle.language.proofs.Between.{between-bounds}
 use Rattle.language.proofs.LayoutPositions.{forward-le}
@@ -112,6 +112,6 @@ tables-alike t v h q =
 -- Runs over stores whose tables are alike are the same.
 pub reads-used : ReadsUsed
 unfolding execute
-reads-used c d u v h a n s =
-    λ i. run (λ b q. tables-alike (tableAt c u b) (tableAt d v b) (h b) q i) (λ b. not (eqb (h b .count i) 0)) n
-    (arrive (λ b q. tables-alike (tableAt c u b) (tableAt d v b) (h b) q i) (λ b. not (eqb (h b .count i) 0)) [] a codeStart) s
+reads-used c d u v k r h a n s =
+    λ i. run (λ b q. tables-alike (tableAt c u b) (tableAt d v b) (h b) q i) (λ b. not (eqb (h b .count i) 0)) (barredAt k r) n
+    (arrive (λ b q. tables-alike (tableAt c u b) (tableAt d v b) (h b) q i) (λ b. not (eqb (h b .count i) 0)) (barredAt k r) [] a codeStart) s

@@ -1,7 +1,7 @@
 -- Which endings can occur: the nested meaning never ends as damaged, and it ends as 27 only where a letter that can be called has no text.
 use mathlib.Core.Path.{_≡_, refl, sym, subst}
 use Prim.Native.Nat.{ℕ, zero, suc, _+_, _-_, _%_}
-use mathlib.Core.Bool.{Bool, true, false, cond, false≢true}
+use mathlib.Core.Bool.{Bool, true, false, cond, _||_, false≢true}
 use mathlib.Core.Option.{Option, none, some}
 use mathlib.Core.List.{List, [], _∷_}
 use lib.IntN.{ℤ, pos, natAbs}
@@ -9,7 +9,7 @@ use lib.ListN.{length, getD}
 use lib.Dec.{leb, ltb, eqb}
 use Rattle.language.specs.Bytes.{newlineByte}
 use Rattle.language.specs.declared.Ending.{Ending}
-use Rattle.language.specs.declared.Ending.the-variants.{Spent, ListEmpty, ListFull, Range, ZeroDivisor, NoInput, PaperOut, NoText, DeepCalls}
+use Rattle.language.specs.declared.Ending.the-variants.{Spent, ListEmpty, ListFull, Range, ZeroDivisor, NoInput, PaperOut, NoText, DeepCalls, StewardCall}
 use Rattle.language.specs.Answers.{endingNumber}
 use Rattle.language.specs.Limits.{maxHeight, maxCalls, maxVariables}
 use Rattle.language.specs.Syntax.{Operator, absolute, discard, negate, copy, write, newline, input, add, subtract, multiply, divide, fetch, save}
@@ -20,15 +20,20 @@ use Rattle.language.specs.Between.{between}
 use Rattle.language.specs.Reading.{ending}
 use Rattle.language.specs.Effects.{State, Effect, goes, stops, Verdict, answers, stalls, needs, ranged, pushed, emitted, operated, perform, ask, countIndex, withTaken, top, column, onCall}
 use Rattle.language.specs.Values.{isValue}
+use Rattle.language.specs.Roles.{bars}
 use Rattle.language.specs.Meaning.{Outcome, ended, stopped, meaning}
 use Rattle.language.specs.Machine.{onEffect, onVerdict}
 use Rattle.language.proofs.MeaningFollowing.{step, andThen, follow, followed, meaning-followed}
 
 -- ── one mark ────────────────────────────────────────────────────────────────────────────────────
 
--- an ending that is neither damage nor the call of a letter without a text: 20 to 28, and not 27
+-- an ending of the nested meaning: 20 to 28 and 34, not damage
+abbrev pub Meant : Ending → Bool
+Meant e = between 20 28 (endingNumber e) || eqb (endingNumber e) 34
+
+-- and not the call of a letter without a text, 27
 abbrev pub Common : Ending → Bool
-Common e = cond (eqb (endingNumber e) 27) false (between 20 28 (endingNumber e))
+Common e = cond (eqb (endingNumber e) 27) false (Meant e)
 
 -- an operation is stopped by such an ending, if at all
 abbrev ProperEffect : Effect → Type 0
@@ -108,7 +113,7 @@ StopsSo P (stopped e s r) = P e
 
 -- Of endings P and letters R: the common endings have P, the calls of a text whose letter has R are of letters that have it, and where one of these
 -- letters has no text, 27 has P.
-module _ (P : Ending → Type 0) (R : ℕ → Type 0) (texts : ℕ → Option Expr)
+module _ (P : Ending → Type 0) (R : ℕ → Type 0) (texts : ℕ → Option Expr) (marks : ℕ → ℕ) (role : ℕ)
     (common : (e : Ending) → Common e ≡ true → P e)
     (closed : (a : ℕ) (w : Expr) → R a → texts a ≡ some w → AllCalls R w)
     (absent : (a : ℕ) → R a → texts a ≡ none → P NoText) where
@@ -139,15 +144,16 @@ module _ (P : Ending → Type 0) (R : ℕ → Type 0) (texts : ℕ → Option Ex
   stops-either true x y h k = h
   stops-either false x y h k = k
 
-  stops-call : (a : ℕ) (x : Option Expr) (d : ℕ) (s : State) (r : ℕ) (k : Expr → Outcome) → R a → texts a ≡ x
-      → ((v : Expr) → AllCalls R v → StopsSo P (k v)) → StopsSo P (onCall x d (λ e. stopped e s r) k)
+  stops-call : (a : ℕ) (x : Option Expr) (b : Bool) (d : ℕ) (s : State) (r : ℕ) (k : Expr → Outcome) → R a → texts a ≡ x
+      → ((v : Expr) → AllCalls R v → StopsSo P (k v)) → StopsSo P (onCall x b d (λ e. stopped e s r) k)
   unfolding onCall
-  stops-call a none d s r k ra e f = absent a ra e
-  stops-call a (some v) d s r k ra e f = stops-either (ltb d maxCalls) (k v) _ (f v (closed a v ra e)) (common DeepCalls refl)
+  stops-call a none b d s r k ra e f = absent a ra e
+  stops-call a (some v) true d s r k ra e f = common StewardCall refl
+  stops-call a (some v) false d s r k ra e f = stops-either (ltb d maxCalls) (k v) _ (f v (closed a v ra e)) (common DeepCalls refl)
 
   stops-follow : (again : ℕ → Expr → ℕ → State → ℕ → Outcome)
       → ((l : ℕ) (w : Expr) (d : ℕ) (s : State) (r : ℕ) → AllCalls R w → StopsSo P (again l w d s r))
-      → (e : Expr) (t : Bool) (l : ℕ) (w : Expr) (d : ℕ) (s : State) (r : ℕ) → AllCalls R w → AllCalls R e → StopsSo P (follow texts again l w d e t s r)
+      → (e : Expr) (t : Bool) (l : ℕ) (w : Expr) (d : ℕ) (s : State) (r : ℕ) → AllCalls R w → AllCalls R e → StopsSo P (follow texts marks role again l w d e t s r)
   unfolding follow
   stops-follow again h close true l w d s r cw ce = stops-step r s (λ r′. ended false s r′) (λ r′. tt)
   stops-follow again h (semi e) true l w d s r cw ce = stops-step r s (λ r′. ended true s r′) (λ r′. tt)
@@ -157,10 +163,10 @@ module _ (P : Ending → Type 0) (R : ℕ → Type 0) (texts : ℕ → Option Ex
   stops-follow again h (test p e) true l w d s r cw ce =
       stops-step r s _ (λ r′. stops-verdict (ask l p s) s (suc r′) _ (proper-asked l p s) (λ t s′. stops-follow again h e t l w d s′ r′ cw ce))
   stops-follow again h (call a e) true l w d s r cw ce =
-      stops-step r s _ (λ r′. stops-call a (texts a) d s (suc r′) _ (ce .0) refl
+      stops-step r s _ (λ r′. stops-call a (texts a) (bars role (marks a)) d s (suc r′) _ (ce .0) refl
       (λ v cv. stops-then (again a v (suc d) s r′) _ (h a v (suc d) s r′ cv) (λ t s′ r″. stops-follow again h e t l w d s′ r″ cw (ce .1))))
   stops-follow again h (inner f e) true l w d s r cw ce =
-      stops-then (follow texts again l f d f true s r) _ (stops-follow again h f true l f d s r (ce .0) (ce .0))
+      stops-then (follow texts marks role again l f d f true s r) _ (stops-follow again h f true l f d s r (ce .0) (ce .0))
       (λ t s′ r′. stops-follow again h e t l w d s′ r′ cw (ce .1))
   stops-follow again h close false l w d s r cw ce = tt
   stops-follow again h (semi e) false l w d s r cw ce = stops-follow again h e true l w d s r cw ce
@@ -170,21 +176,21 @@ module _ (P : Ending → Type 0) (R : ℕ → Type 0) (texts : ℕ → Option Ex
   stops-follow again h (call a e) false l w d s r cw ce = stops-follow again h e false l w d s r cw (ce .1)
   stops-follow again h (inner f e) false l w d s r cw ce = stops-follow again h e false l w d s r cw (ce .1)
 
-  stops-followed : (g l : ℕ) (w : Expr) (d : ℕ) (s : State) (r : ℕ) → AllCalls R w → StopsSo P (followed texts g l w d s r)
+  stops-followed : (g l : ℕ) (w : Expr) (d : ℕ) (s : State) (r : ℕ) → AllCalls R w → StopsSo P (followed texts marks role g l w d s r)
   unfolding followed
   stops-followed zero l w d s r cw = common Spent refl
   stops-followed (suc g) l w d s r cw =
-      stops-follow (followed texts g) (λ l′ w′ d′ s′ r′ c′. stops-followed g l′ w′ d′ s′ r′ c′) w true l w d s r cw cw
+      stops-follow (followed texts marks role g) (λ l′ w′ d′ s′ r′ c′. stops-followed g l′ w′ d′ s′ r′ c′) w true l w d s r cw cw
 
   -- The nested meaning of an expression that calls such letters ends, or stops with such an ending.
-  pub stops-meaning : (g l : ℕ) (w : Expr) (d : ℕ) (s : State) (r : ℕ) → AllCalls R w → StopsSo P (meaning texts g l w d s r)
-  stops-meaning g l w d s r cw = subst (StopsSo P) (sym (meaning-followed texts g l w d s r)) (stops-followed g l w d s r cw)
+  pub stops-meaning : (g l : ℕ) (w : Expr) (d : ℕ) (s : State) (r : ℕ) → AllCalls R w → StopsSo P (meaning texts marks role g l w d s r)
+  stops-meaning g l w d s r cw = subst (StopsSo P) (sym (meaning-followed texts marks role g l w d s r)) (stops-followed g l w d s r cw)
 
--- ── 20 to 28 ────────────────────────────────────────────────────────────────────────────────────
+-- ── 20 to 28, and 34 ────────────────────────────────────────────────────────────────────────────────
 
 -- an ending that is not damage
 abbrev Proper : Ending → Type 0
-Proper e = between 20 28 (endingNumber e) ≡ true
+Proper e = Meant e ≡ true
 
 -- an outcome is stopped by such an ending, if at all
 abbrev pub ProperOutcome : Outcome → Type 0
@@ -203,11 +209,11 @@ any-calls (inner f e) = (any-calls f, any-calls e)
 common-proper : (e : Ending) → Common e ≡ true → Proper e
 common-proper e h = go (eqb (endingNumber e) 27) h
   where
-    go : (u : Bool) → cond u false (between 20 28 (endingNumber e)) ≡ true → between 20 28 (endingNumber e) ≡ true
+    go : (u : Bool) → cond u false (Meant e) ≡ true → Meant e ≡ true
     go true z = absurd (false≢true z)
     go false z = z
 
--- the nested meaning ends, or stops with 20 to 28
-pub proper-meaning : (texts : ℕ → Option Expr) (g l : ℕ) (w : Expr) (d : ℕ) (s : State) (r : ℕ) → ProperOutcome (meaning texts g l w d s r)
-proper-meaning texts g l w d s r =
-    stops-meaning Proper (λ _. Unit {0}) texts common-proper (λ a v h e. any-calls v) (λ a h e. refl) g l w d s r (any-calls w)
+-- the nested meaning ends, or stops with 20 to 28 or 34
+pub proper-meaning : (texts : ℕ → Option Expr) (marks : ℕ → ℕ) (role g l : ℕ) (w : Expr) (d : ℕ) (s : State) (r : ℕ) → ProperOutcome (meaning texts marks role g l w d s r)
+proper-meaning texts marks role g l w d s r =
+    stops-meaning Proper (λ _. Unit {0}) texts marks role common-proper (λ a v h e. any-calls v) (λ a h e. refl) g l w d s r (any-calls w)

@@ -11,6 +11,7 @@ use lib.Dec.{eqb}
 use borrow.Author.Tests.{ne-eqb}
 use Rattle.language.specs.declared.Table.{Table}
 use Rattle.language.specs.Limits.{maxCells}
+use Rattle.language.specs.Roles.{letterMark}
 use Rattle.language.specs.Syntax.{Operation, operator, variable, constant, print, Predicate, condition, counter}
 use Rattle.language.specs.Syntax.{Expr, close, semi, colon, operate, test, call, inner}
 use Rattle.language.specs.Layout.{afterOperation, afterPredicate, afterCall, afterExpr, falseExit, byteCells, operationCells, predicateCells, exprCells, usedCells, layout}
@@ -81,10 +82,9 @@ layout-decodes t w e =
     record { least = used-least w; most = u; whole = length-layout w u; first = refl; decodes = d .0; ends = d .1; zeros = formed-zeros w g }
 
 -- what the simulation asks of a letter
-pub stored-stands : (texts : ℕ → Option Expr) (c : List ℤ) (u : List ℕ) (a : ℕ) (x : Option Expr) → Holds (tableAt c u a) x
-    → Stands texts (decodeAt c u) (standsAt u) a x
-stored-stands texts c u a none h = ap (λ n. not (eqb n 0)) h
-stored-stands texts c u a (some w) h =
+pub stored-stands : (c : List ℤ) (u : List ℕ) (a : ℕ) (x : Option Expr) → Holds (tableAt c u a) x → Stands (decodeAt c u) (standsAt u) a x
+stored-stands c u a none h = ap (λ n. not (eqb n 0)) h
+stored-stands c u a (some w) h =
     let p = used-least w in
     let d = formed-decodes w (accepted-formed (h .text) w (h .reads)) in
     subst (λ (t : Table). (not (eqb (t .used) 0) ≡ true) × Decodes (decode t) w 2 (usedCells w) outermost 2 × (decode t (usedCells w) ≡ last)) (sym (h .table))
@@ -93,5 +93,5 @@ stored-stands texts c u a (some w) h =
 -- Over the tables of standing texts the machine gives what the meaning gives.
 pub machine-meaning : MachineMeaning
 unfolding execute
-machine-meaning texts c u h a w e n g s lt =
-    sym (run-meaning texts (decodeAt c u) (standsAt u) (λ b. stored-stands texts c u b (texts b) (h b)) g a w s n e lt)
+machine-meaning texts c u k r h a w e n g s lt =
+    sym (run-meaning texts (letterMark k) r (decodeAt c u) (standsAt u) (λ b. stored-stands c u b (texts b) (h b)) g a w s n e lt)

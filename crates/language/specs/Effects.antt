@@ -9,7 +9,7 @@ use lib.ListN.{length, getD, set, replicate}
 use lib.Seq.{paste}
 use lib.Dec.{leb, ltb, eqb}
 use Rattle.language.specs.declared.Ending.{Ending}
-use Rattle.language.specs.declared.Ending.the-variants.{ListEmpty, ListFull, Range, ZeroDivisor, NoInput, PaperOut, NoText, DeepCalls}
+use Rattle.language.specs.declared.Ending.the-variants.{ListEmpty, ListFull, Range, ZeroDivisor, NoInput, PaperOut, NoText, DeepCalls, StewardCall}
 use Rattle.language.specs.Limits.{maxHeight, maxCounters, maxCalls, storeCounts, writeWidth, maxVariables}
 use Rattle.language.specs.Bytes.{newlineByte}
 use Rattle.language.specs.Values.{isValue}
@@ -182,8 +182,10 @@ ask l (counter m k) s = counted s (countIndex l k) m
 
 -- ── calls ───────────────────────────────────────────────────────────────────────────────────────
 
--- The call of what stands under a letter, if anything does, with d calls open: k enters it, or h has what stops it. "no text: call of a cleared
--- letter", "deep calls: a 101st nested call", "27 before 28". Meaning and machine share this one account.
-unfoldable pub onCall : {A B : Type 0} → Option A → ℕ → (Ending → B) → (A → B) → B
-onCall none d h k = h NoText
-onCall (some v) d h k = cond (ltb d maxCalls) (k v) (h DeepCalls)
+-- The call of what stands under a letter, if anything does, which is barred to the run's caller or not, with d calls open: k enters it, or h has what
+-- stops it. "no text: call of a cleared letter", "deep calls: a 101st nested call"; document 02, U7: "34 steward call, an ending, a cashier's run calls
+-- one, after 27 and before 28". Meaning and machine share this one account.
+unfoldable pub onCall : {A B : Type 0} → Option A → Bool → ℕ → (Ending → B) → (A → B) → B
+onCall none b d h k = h NoText
+onCall (some v) true d h k = h StewardCall
+onCall (some v) false d h k = cond (ltb d maxCalls) (k v) (h DeepCalls)

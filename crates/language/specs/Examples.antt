@@ -11,7 +11,7 @@ use Rattle.language.specs.declared.Table.{Table}
 use Rattle.language.specs.Reading.{refused, accepted}
 use Rattle.language.specs.Layout.{cleared}
 use Rattle.language.specs.Machine.{transfer, fail, last, damaged, code, run}
-use Rattle.language.specs.Trials.{bytes, times, neg, zeros, Result, ends, halts, took, keeps, wrote, Example, refusedAs, gives, decodes, refuses, lays, fault, says, saysNone, trial, within, once, fed, printing, calling, both}
+use Rattle.language.specs.Trials.{bytes, times, neg, zeros, Result, ends, halts, took, keeps, wrote, Example, refusedAs, gives, decodes, refuses, lays, fault, says, saysNone, trial, within, once, fed, printing, guarded, calling, both}
 
 -- ── document 01, "Examples", the starred ones ───────────────────────────────────────────────────
 
@@ -34,7 +34,7 @@ starred =
     ∷ once "('/0'($5$'/1'+:;);)" (ends true 24 (pos 5 ∷ []))
     ∷ once "('/0'('/1'+$5$:;);)" (ends true 26 (pos 6 ∷ []))
     ∷ gives
-    (record { texts = ("d", bytes "(0L'/1';'/1'-d'/2'*;)") ∷ ("m", bytes "(Id;)") ∷ []; letter = "m"; allowance = 1000; inputs = pos 3 ∷ []; room = 0 })
+    (record { texts = ("d", bytes "(0L'/1';'/1'-d'/2'*;)") ∷ ("m", bytes "(Id;)") ∷ []; stewards = []; letter = "m"; role = 0; allowance = 1000; inputs = pos 3 ∷ []; room = 0 })
     (took 1 (ends true 28 (pos 8 ∷ [])))
     ∷ once "(((((((((())))))))))" (ends true 5 [])
     ∷ fault "((((((((((()))))))))))" 4
@@ -99,6 +99,12 @@ faults =
     ∷ refuses 14 true
     ∷ refuses 15 false
     ∷ refuses 20 false
+    -- document 02, U7: 33 and 35 refuse; 34 is "an ending"
+    ∷ refuses 32 false
+    ∷ refuses 33 true
+    ∷ refuses 34 false
+    ∷ refuses 35 true
+    ∷ refuses 36 false
     ∷ []
 
 -- ── limits ──────────────────────────────────────────────────────────────────────────────────────
@@ -481,4 +487,34 @@ stops =
     ∷ once "($100$t;z)" (halts 27 201 [])
     -- a stop in a callee, and what the run holds there
     ∷ both "('/4'S2b;)" "(LL;)" (keeps (zeros 2 ++ pos 4 ∷ zeros 7) (halts 21 4 []))
+    ∷ []
+
+-- ── letters for stewards ────────────────────────────────────────────────────────────────────────
+
+-- Document 02, U7: "34 steward call, an ending, a cashier's run calls one, after 27 and before 28". The letter `a` is run, by a cashier, 0, or a steward, 1.
+abbrev pub guardings : List Example
+guardings =
+    -- a call of an open letter; of a steward's; the same by a steward
+    guarded 0 1000 [] (("a", bytes "(b;)") ∷ ("b", bytes "(;)") ∷ []) "a" (ends true 3 [])
+    ∷ guarded 0 1000 ("b" ∷ []) (("a", bytes "(b;)") ∷ ("b", bytes "(;)") ∷ []) "a" (halts 34 0 [])
+    ∷ guarded 1 1000 ("b" ∷ []) (("a", bytes "(b;)") ∷ ("b", bytes "(;)") ∷ []) "a" (ends true 3 [])
+    ∷ guarded 1 1000 [] (("a", bytes "(b;)") ∷ ("b", bytes "(;)") ∷ []) "a" (ends true 3 [])
+    -- "A mark that stops a run changes nothing and is not counted."
+    ∷ guarded 0 1000 ("b" ∷ []) (("a", bytes "('/4'S2b;)") ∷ ("b", bytes "(L;)") ∷ []) "a" (keeps (zeros 2 ++ pos 4 ∷ zeros 7) (halts 34 2 (pos 4 ∷ [])))
+    -- a level further down; after a return; both levels by a steward
+    ∷ guarded 0 1000 ("c" ∷ []) (("a", bytes "(b;)") ∷ ("b", bytes "('/1'c;)") ∷ ("c", bytes "(;)") ∷ []) "a" (halts 34 2 (pos 1 ∷ []))
+    ∷ guarded 0 1000 ("c" ∷ []) (("a", bytes "(bc;)") ∷ ("b", bytes "('/1';)") ∷ ("c", bytes "(;)") ∷ []) "a" (halts 34 3 (pos 1 ∷ []))
+    ∷ guarded 1 1000 ("b" ∷ "c" ∷ []) (("a", bytes "(b;)") ∷ ("b", bytes "('/1'c;)") ∷ ("c", bytes "('/2';)") ∷ []) "a" (ends true 7 (pos 1 ∷ pos 2 ∷ []))
+    -- the mark is that of the letter called, not of the one that calls, nor of a neighbour
+    ∷ guarded 0 1000 ("a" ∷ "c" ∷ []) (("a", bytes "(b;)") ∷ ("b", bytes "(;)") ∷ []) "a" (ends true 3 [])
+    -- the first and the last letter
+    ∷ guarded 0 1000 ("a" ∷ []) (("z", bytes "(a;)") ∷ ("a", bytes "(;)") ∷ []) "z" (halts 34 0 [])
+    ∷ guarded 0 1000 ("z" ∷ []) (("a", bytes "(z;)") ∷ ("z", bytes "(;)") ∷ []) "a" (halts 34 0 [])
+    -- after 20 and 27, before 28
+    ∷ guarded 0 0 ("b" ∷ []) (("a", bytes "(b;)") ∷ ("b", bytes "(;)") ∷ []) "a" (halts 20 0 [])
+    ∷ guarded 0 1000 ("b" ∷ []) (("a", bytes "(b;)") ∷ []) "a" (halts 27 0 [])
+    ∷ guarded 0 1000 ("z" ∷ []) (("t", bytes "($100$t;z)") ∷ ("z", bytes "(;)") ∷ []) "t" (halts 34 201 [])
+    ∷ guarded 1 1000 ("z" ∷ []) (("t", bytes "($100$t;z)") ∷ ("z", bytes "(;)") ∷ []) "t" (halts 28 201 [])
+    -- a call that is not reached stops nothing
+    ∷ guarded 0 1000 ("b" ∷ []) (("a", bytes "(;b)") ∷ ("b", bytes "(;)") ∷ []) "a" (ends true 1 [])
     ∷ []

@@ -1,5 +1,6 @@
 -- The code table of an expression, cell by cell.
 use Prim.Native.Nat.{ℕ, zero, suc, _-_}
+use mathlib.Core.Option.{Option, none, some}
 use mathlib.Core.List.{List, [], _∷_}
 use lib.IntN.{ℤ, pos, negℤ}
 use lib.ListN.{length, replicate}
@@ -114,3 +115,8 @@ layout w =
 -- "Withdraw clears it to 0." "a cleared letter is one whose count is 0"
 abbrev pub cleared : Table
 cleared = record { used = 0; cells = replicate maxCells (pos 0) }
+
+-- the table of a text, or of a cleared letter
+abbrev pub tableOf : Option Expr → Table
+tableOf none = cleared
+tableOf (some w) = layout w

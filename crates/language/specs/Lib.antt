@@ -5,6 +5,7 @@ pub mod Bytes
 pub mod Lookup
 pub mod Letters
 pub mod Values
+pub mod Roles
 pub mod Decimals
 pub mod Syntax
 pub mod Tokens

@@ -169,8 +169,8 @@ abbrev pub present : Bool → Option (Unit {0})
 present true = some tt
 present false = none
 
--- over a store whose cells decode so, where these letters stand
-module _ (at : ℕ → ℕ → Decoded) (stands : ℕ → Bool) where
+-- over a store whose cells decode so, where these letters stand and these are barred to the run's caller
+module _ (at : ℕ → ℕ → Decoded) (stands barred : ℕ → Bool) where
   -- The code of a letter ends with truth t: its caller goes on after the call, or at its false exit. "The return itself is none."
   unfoldable pub return : List Frame → Bool → Due
   unfolding arrived pick
@@ -190,7 +190,7 @@ module _ (at : ℕ → ℕ → Decoded) (stands : ℕ → Bool) where
   turn r go l fr (operateAt o n) s = onEffect (perform o s) s (suc r) (λ s′. go (arrive fr l n) s′)
   turn r go l fr (testAt p n f) s = onVerdict (ask l p s) s (suc r) (λ t s′. go (arrive fr l (pick t n f)) s′)
   turn r go l fr (callAt a n f) s =
-      onCall (present (stands a)) (length fr) (λ e. stopped e s (suc r))
+      onCall (present (stands a)) (barred a) (length fr) (λ e. stopped e s (suc r))
       (λ _. go (arrive (record { letter = l; next = n; exit = f } ∷ fr) a codeStart) s)
 
   -- With r steps left: "Where several stops fit: 29, 20, then for that mark .."

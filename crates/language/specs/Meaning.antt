@@ -4,6 +4,7 @@ use mathlib.Core.Bool.{Bool, true, false}
 use mathlib.Core.Option.{Option}
 use Rattle.language.specs.declared.Ending.{Ending}
 use Rattle.language.specs.declared.Ending.the-variants.{Spent}
+use Rattle.language.specs.Roles.{bars}
 use Rattle.language.specs.Syntax.{Expr, close, semi, colon, operate, test, call, inner}
 use Rattle.language.specs.Effects.{State, goes, stops, answers, stalls, perform, ask, onCall}
 
@@ -12,8 +13,9 @@ pub data Outcome : Type 0 where
   ended : Bool → State → ℕ → Outcome
   stopped : Ending → State → ℕ → Outcome
 
--- Inside the letter l, with d calls open. `texts` are the standing texts; `again` obeys an expression of a letter from its start.
-module _ (texts : ℕ → Option Expr) (again : ℕ → Expr → ℕ → State → ℕ → Outcome) (l d : ℕ) where
+-- Inside the letter l, with d calls open. `texts` are the standing texts, `marks` the letters' marks and `role` the caller's role: "The nested meaning
+-- carries role and marks" (document 02, U7). `again` obeys an expression of a letter from its start.
+module _ (texts : ℕ → Option Expr) (marks : ℕ → ℕ) (role : ℕ) (again : ℕ → Expr → ℕ → State → ℕ → Outcome) (l d : ℕ) where
   unfoldable mutual
     -- Obey the rest e of the expression w, with r steps left. "spent: steps equal the allowance and another step is due." "Reaching `;` ends
     -- true, `:` starts the expression again, `)` ends false." "A mark that stops a run changes nothing and is not counted."
@@ -31,7 +33,7 @@ module _ (texts : ℕ → Option Expr) (again : ℕ → Expr → ℕ → State �
         elim (ask l p s) [ answers true s′ ↦ obey e w s′ r | answers false s′ ↦ skip e w s′ r | stalls k ↦ stopped k s (suc r) ]
     obey (call a e) w s zero = stopped Spent s zero
     obey (call a e) w s (suc r) =
-        onCall (texts a) d (λ k. stopped k s (suc r))
+        onCall (texts a) (bars role (marks a)) d (λ k. stopped k s (suc r))
         (λ v. elim (again a v (suc d) s r) [ ended true s′ r′ ↦ obey e w s′ r′ | ended false s′ r′ ↦ skip e w s′ r′ | stopped k s′ r′ ↦ stopped k s′ r′ ])
     obey (inner f e) w s r =
         elim (obey f f s r) [ ended true s′ r′ ↦ obey e w s′ r′ | ended false s′ r′ ↦ skip e w s′ r′ | stopped k s′ r′ ↦ stopped k s′ r′ ]
@@ -48,7 +50,7 @@ module _ (texts : ℕ → Option Expr) (again : ℕ → Expr → ℕ → State �
 
 -- The expression w of letter l from its start, with d calls open and r steps left. A restart and a call each take a step, so recursion deeper
 -- than the steps left does not occur: any g above r gives the same outcome.
-unfoldable pub meaning : (ℕ → Option Expr) → ℕ → ℕ → Expr → ℕ → State → ℕ → Outcome
-unfolding obey
-meaning texts zero l w d s r = stopped Spent s r
-meaning texts (suc g) l w d s r = obey texts (meaning texts g) l d w w s r
+unfoldable pub meaning : (ℕ → Option Expr) → (ℕ → ℕ) → ℕ → ℕ → ℕ → Expr → ℕ → State → ℕ → Outcome
+unfolding obey bars
+meaning texts marks role zero l w d s r = stopped Spent s r
+meaning texts marks role (suc g) l w d s r = obey texts marks role (meaning texts marks role g) l d w w s r

@@ -16,6 +16,7 @@ use Rattle.language.specs.Answers.{refusalNumber}
 use Rattle.language.specs.Limits.{maxText, maxCells, maxHeight, writeWidth}
 use Rattle.language.specs.Syntax.{Expr, close, semi, colon, operate, test, call, inner, operator, write, divide}
 use Rattle.language.specs.Values.{isValue}
+use Rattle.language.specs.Roles.{letterMark}
 use Rattle.language.specs.Reading.{Reading, refused, accepted, read}
 use Rattle.language.specs.Grammar.{Spells, Within}
 use Rattle.language.specs.Layout.{afterOperation, afterPredicate, afterCall, afterExpr, falseExit, codeStart, usedCells, layout}
@@ -129,7 +130,8 @@ pub record Alike (t v : Table) : Type 0 where
 -- "Cell 1 holds 2000 and no run reads it", nor a cell past the used ones: over tables so alike a run is the same. proofs/MachineReads `reads-used`
 abbrev pub ReadsUsed : Type 0
 ReadsUsed =
-    (c d : List ℤ) (u v : List ℕ) → ((a : ℕ) → Alike (tableAt c u a) (tableAt d v a)) → (a n : ℕ) (s : State) → execute c u a n s ≡ execute d v a n s
+    (c d : List ℤ) (u v k : List ℕ) (r : ℕ) → ((a : ℕ) → Alike (tableAt c u a) (tableAt d v a)) → (a n : ℕ) (s : State)
+    → execute c u k r a n s ≡ execute d v k r a n s
 
 -- ── division ────────────────────────────────────────────────────────────────────────────────────
 
@@ -196,12 +198,12 @@ abbrev pub Holds : Table → Option Expr → Type 0
 Holds t none = t .used ≡ 0
 Holds t (some w) = HoldsText t w
 
--- A run over the tables of standing texts is the nested meaning over the texts: ending, truth, steps, stack, variables, inputs taken, output. Any
--- bound g above the allowance gives it. proofs/TablesMeaning `machine-meaning`
+-- A run over the tables of standing texts is the nested meaning over the texts, for any marks k and any role r: ending, truth, steps, stack, variables,
+-- inputs taken, output. Any bound g above the allowance gives it. proofs/TablesMeaning `machine-meaning`
 abbrev pub MachineMeaning : Type 0
 MachineMeaning =
-    (texts : ℕ → Option Expr) (c : List ℤ) (u : List ℕ) → ((a : ℕ) → Holds (tableAt c u a) (texts a))
-    → (a : ℕ) (w : Expr) → texts a ≡ some w → (n g : ℕ) (s : State) → n < g → execute c u a n s ≡ meaning texts g a w 0 s n
+    (texts : ℕ → Option Expr) (c : List ℤ) (u k : List ℕ) (r : ℕ) → ((a : ℕ) → Holds (tableAt c u a) (texts a))
+    → (a : ℕ) (w : Expr) → texts a ≡ some w → (n g : ℕ) (s : State) → n < g → execute c u k r a n s ≡ meaning texts (letterMark k) r g a w 0 s n
 
 -- what a run has done to the caller's list and output o: "The first list place is the bottom; places above the height are 0; output past its
 -- length is unchanged"
@@ -220,4 +222,4 @@ finalState (stopped e s r) = s
 
 -- Every run over any cells leaves the list and the output so. proofs/EffectsLent `lent-parts`
 abbrev pub LentParts : Type 0
-LentParts = (c : List ℤ) (u : List ℕ) (a n : ℕ) (v i : List ℤ) (o : List ℕ) → Lent o (finalState (execute c u a n (start v i o)))
+LentParts = (c : List ℤ) (u k : List ℕ) (r a n : ℕ) (v i : List ℤ) (o : List ℕ) → Lent o (finalState (execute c u k r a n (start v i o)))

@@ -1,4 +1,4 @@
--- The tables of all letters in one list of cells, with a list of their used-cell counts; and the table machine over them.
+-- The tables of all letters in one list of cells, with lists of their used-cell counts and of their marks; and the table machine over them.
 use Prim.Native.Nat.{ℕ, _*_}
 use mathlib.Core.Bool.{Bool, true, cond, not, _&&_}
 use mathlib.Core.List.{List, [], _∷_}
@@ -8,6 +8,7 @@ use lib.Dec.{eqb}
 use Rattle.language.specs.declared.Table.{Table}
 use Rattle.language.specs.Between.{between}
 use Rattle.language.specs.Limits.{maxCells}
+use Rattle.language.specs.Roles.{letterMark, isMark, bars}
 use Rattle.language.specs.Layout.{codeStart}
 use Rattle.language.specs.Effects.{State}
 use Rattle.language.specs.Meaning.{Outcome}
@@ -29,10 +30,15 @@ decodeAt c u a q = decode (tableAt c u a) q
 abbrev pub standsAt : List ℕ → ℕ → Bool
 standsAt u a = not (eqb (getD u a 0) 0)
 
--- what the machine comes to from cell 2 of letter a, with n steps
-unfoldable pub execute : List ℤ → List ℕ → ℕ → ℕ → State → Outcome
-unfolding run arrive
-execute c u a n s = run (decodeAt c u) (standsAt u) n (arrive (decodeAt c u) (standsAt u) [] a codeStart) s
+-- letter a, by its mark of the marks k, is not for a caller with the role r
+abbrev pub barredAt : List ℕ → ℕ → ℕ → Bool
+barredAt k r a = bars r (letterMark k a)
+
+-- what the machine comes to from cell 2 of letter a, for a caller with the role r, with n steps
+unfoldable pub execute : List ℤ → List ℕ → List ℕ → ℕ → ℕ → ℕ → State → Outcome
+unfolding run arrive bars
+execute c u k r a n s =
+    run (decodeAt c u) (standsAt u) (barredAt k r) n (arrive (decodeAt c u) (standsAt u) (barredAt k r) [] a codeStart) s
 
 -- "bad store: a used count neither 0 nor 3 to 250"; one count, and all of them
 unfoldable pub soundCount : ℕ → Bool
@@ -43,3 +49,9 @@ unfoldable pub soundUsed : List ℕ → Bool
 unfolding soundCount
 soundUsed [] = true
 soundUsed (n ∷ l) = soundCount n && soundUsed l
+
+-- Document 02, U7: "The bad-store test covers a mark with any other value." Every mark of a list is one of the two.
+unfoldable pub soundMarks : List ℕ → Bool
+unfolding isMark
+soundMarks [] = true
+soundMarks (k ∷ l) = isMark k && soundMarks l

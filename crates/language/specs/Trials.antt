@@ -13,9 +13,10 @@ use Rattle.language.specs.declared.Table.{Table}
 use Rattle.language.specs.declared.Ending.the-variants.{NoText}
 use Rattle.language.specs.Answers.{refusalNumber, isRefusal, endingNumber}
 use Rattle.language.specs.Letters.{letterIndex}
+use Rattle.language.specs.Roles.{bars}
 use Rattle.language.specs.Syntax.{Expr}
 use Rattle.language.specs.Reading.{Reading, refused, accepted, read, exprOf}
-use Rattle.language.specs.Layout.{layout, cleared, codeStart}
+use Rattle.language.specs.Layout.{layout, tableOf, codeStart}
 use Rattle.language.specs.Money.{readMoney}
 use Rattle.language.specs.Effects.{State, start}
 use Rattle.language.specs.Meaning.{Outcome, ended, stopped, meaning}
@@ -119,10 +120,12 @@ wrote s r =
       printed = bytes s;
     }
 
--- texts under letters, and the letter, allowance, inputs and room for output bytes of a run
+-- texts under letters, and which letters are stewards'; and the letter, role, allowance, inputs and room for output bytes of a run
 pub record Trial : Type 0 where
   pub texts : List (Char × List ℕ)
+  pub stewards : List Char
   pub letter : Char
+  pub role : ℕ
   pub allowance : ℕ
   pub inputs : List ℤ
   pub room : ℕ
@@ -133,10 +136,10 @@ unfolding read exprOf
 textAt [] a = none
 textAt ((l, t) ∷ ts) a = cond (eqb (letterIndex (codeOf l)) a) (exprOf (read t)) (textAt ts a)
 
--- its table, and whether it stands
-abbrev pub tableOf : Option Expr → Table
-tableOf none = cleared
-tableOf (some w) = layout w
+-- the mark of letter a, where these letters are stewards'
+unfoldable pub markIn : List Char → ℕ → ℕ
+markIn [] a = 0
+markIn (l ∷ ls) a = cond (eqb (letterIndex (codeOf l)) a) 1 (markIn ls a)
 
 -- a text is there
 abbrev pub isSome : Option Expr → Bool
@@ -150,7 +153,8 @@ startOf x = start fresh (x .inputs) (replicate (x .room) 42)
 -- what the nested meaning comes to, and the table machine over the texts' tables
 abbrev pub obeyedBy : Trial → Option Expr → Outcome
 obeyedBy x none = stopped NoText (startOf x) (x .allowance)
-obeyedBy x (some w) = meaning (textAt (x .texts)) (suc (x .allowance)) (letterIndex (codeOf (x .letter))) w 0 (startOf x) (x .allowance)
+obeyedBy x (some w) =
+    meaning (textAt (x .texts)) (markIn (x .stewards)) (x .role) (suc (x .allowance)) (letterIndex (codeOf (x .letter))) w 0 (startOf x) (x .allowance)
 
 -- what the nested meaning gives
 abbrev pub meant : Trial → Outcome
@@ -164,10 +168,15 @@ decodedIn x a q = decode (tableOf (textAt (x .texts) a)) q
 abbrev pub standsIn : Trial → ℕ → Bool
 standsIn x a = isSome (textAt (x .texts) a)
 
+-- the letters that are not for the caller
+abbrev pub barredIn : Trial → ℕ → Bool
+barredIn x a = bars (x .role) (markIn (x .stewards) a)
+
 -- what the table machine gives
 abbrev pub machined : Trial → Outcome
 machined x =
-    run (decodedIn x) (standsIn x) (x .allowance) (arrive (decodedIn x) (standsIn x) [] (letterIndex (codeOf (x .letter))) codeStart) (startOf x)
+    run (decodedIn x) (standsIn x) (barredIn x) (x .allowance)
+    (arrive (decodedIn x) (standsIn x) (barredIn x) [] (letterIndex (codeOf (x .letter))) codeStart) (startOf x)
 
 -- ── examples ────────────────────────────────────────────────────────────────────────────────────
 
@@ -240,7 +249,8 @@ saysNone b = readAs (bytes b) none
 
 -- a text under the letter t, run with an allowance, inputs and room for output
 abbrev pub trial : List ℕ → ℕ → List ℤ → ℕ → Result → Example
-trial t n i room r = gives (record { texts = ("t", t) ∷ []; letter = "t"; allowance = n; inputs = i; room = room }) r
+trial t n i room r =
+    gives (record { texts = ("t", t) ∷ []; stewards = []; letter = "t"; role = 0; allowance = n; inputs = i; room = room }) r
 
 -- a text run with an allowance and nothing else
 abbrev pub within : ℕ → String → Result → Example
@@ -258,9 +268,13 @@ fed i t r = trial (bytes t) 1000 i 0 r
 abbrev pub printing : ℕ → String → Result → Example
 printing n t r = trial (bytes t) 1000 [] n r
 
+-- texts under letters, of which some are stewards'; a letter run by a caller with the role k, with an allowance
+abbrev pub guarded : ℕ → ℕ → List Char → List (Char × List ℕ) → Char → Result → Example
+guarded k n ss ts l r = gives (record { texts = ts; stewards = ss; letter = l; role = k; allowance = n; inputs = []; room = 0 }) r
+
 -- texts under two letters, the first run with an allowance
 abbrev pub calling : ℕ → Char → List ℕ → Char → List ℕ → Result → Example
-calling n a s b t r = gives (record { texts = (a, s) ∷ (b, t) ∷ []; letter = a; allowance = n; inputs = []; room = 0 }) r
+calling n a s b t r = guarded 0 n [] ((a, s) ∷ (b, t) ∷ []) a r
 
 -- texts under `a` and `b`, `a` run
 abbrev pub both : String → String → Result → Example

@@ -2,6 +2,7 @@
 ghost use mathlib.Core.Path.{_≡_};
 ghost use Rattle.language.specs.Answers.{refusalNumber, endingNumber};
 ghost use Rattle.language.specs.Layout.{cleared};
+ghost use Rattle.language.specs.Roles.{bars};
 
 // The letters of a store, `a` to `z`.
 pub const LETTERS: usize = 26;
@@ -29,6 +30,29 @@ pub const LEAST_VALUE: i32 = -999999999;
 
 // Document 02, U6: "right-justified in 14 columns"
 pub const WRITE_WIDTH: usize = 14;
+
+// Document 02, U7: the mark of a letter that anyone may run, "open (0) or steward (1)".
+pub const OPEN: u32 = 0;
+
+// The mark of a letter that only a steward may run.
+pub const STEWARDS: u32 = 1;
+
+// The role of a run's caller who may run open letters only, "cashier (0) or steward (1)".
+pub const CASHIER: u32 = 0;
+
+// The role of a caller who may run every letter.
+pub const STEWARD: u32 = 1;
+
+// Whether a letter with this mark is not for a caller with this role.
+pub fn bars(role: u32, mark: u32) -> bool
+    ensures { λ r. ⌜ r ≡ bars role mark ⌝ }
+{
+    if role == CASHIER {
+        mark == STEWARDS
+    } else {
+        false
+    }
+}
 
 // The code of a constant, which its cell holds negated: "(byte of `/` or `'` plus 128)".
 pub const CONSTANT_CODE: u8 = b'/' + 128;
@@ -68,7 +92,7 @@ impl Table {
     }
 }
 
-// Why a call is refused, in the order of document 01's numbers 1 to 14.
+// Why a call is refused, in the order of the documents' numbers: 1 to 14, 33 and 35.
 pub enum Refusal {
     NoSuchLetter,
     LongText,
@@ -84,10 +108,12 @@ pub enum Refusal {
     BadList,
     BadStore,
     BadLine,
+    NotForCashiers,
+    BadMark,
 }
 
 impl Refusal {
-    // Document 01's number.
+    // The documents' number.
     pub fn number(self) -> u32
         ensures { λ r. ⌜ r ≡ refusalNumber self ⌝ }
     {
@@ -106,11 +132,13 @@ impl Refusal {
             Refusal::BadList => 12,
             Refusal::BadStore => 13,
             Refusal::BadLine => 14,
+            Refusal::NotForCashiers => 33,
+            Refusal::BadMark => 35,
         }
     }
 }
 
-// How a run ends: 0 and document 01's numbers 20 to 29.
+// How a run ends: 0 and the documents' numbers 20 to 29 and 34.
 pub enum Ending {
     Finished,
     Spent,
@@ -123,10 +151,11 @@ pub enum Ending {
     NoText,
     DeepCalls,
     Damaged,
+    StewardCall,
 }
 
 impl Ending {
-    // Document 01's number.
+    // The documents' number.
     pub fn number(self) -> u32
         ensures { λ r. ⌜ r ≡ endingNumber self ⌝ }
     {
@@ -142,6 +171,7 @@ impl Ending {
             Ending::NoText => 27,
             Ending::DeepCalls => 28,
             Ending::Damaged => 29,
+            Ending::StewardCall => 34,
         }
     }
 }

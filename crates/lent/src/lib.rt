@@ -8,6 +8,7 @@ ghost use Rattle.book.specs.Calls.{defines, withdraws};
 ghost use Rattle.book.specs.Store.{storeOf, storeCall, told};
 ghost use Rattle.lent.specs.Lent.{Room, Puts};
 use language::LETTERS;
+use language::OPEN;
 use language::Refusal;
 use language::STORE_CELLS;
 use language::Table;
@@ -32,55 +33,71 @@ fn copy_table(cells: &mut [i32; STORE_CELLS], base: usize, table: &[i32; Table::
     }
 }
 
-// The table of letter `k` is replaced, with its used-cell count.
-fn put(cells: &mut [i32; STORE_CELLS], used: &mut [usize; LETTERS], k: usize, table: Table)
+// The entry of letter `k` is replaced: its table, its used-cell count and its mark.
+fn put(
+    cells: &mut [i32; STORE_CELLS],
+    used: &mut [usize; LETTERS],
+    marks: &mut [u32; LETTERS],
+    k: usize,
+    table: Table,
+    mark: u32,
+)
     requires { ⌜ k < maxLetters ⌝ }
-    ensures { λ _. ⌜ Puts (now (cells .entry)) (now (used .entry)) k table (now (cells .exit)) (now (used .exit)) ⌝ }
+    ensures { λ _. ⌜ Puts (now (cells .entry)) (now (used .entry)) (now (marks .entry)) k table mark (now (cells .exit)) (now (used .exit)) (now (marks .exit)) ⌝ }
 {
     let before = *cells;
     all_there(before);
     let from = table.cells;
     copy_table(cells, k * Table::CELLS, &from);
     used[k] = table.used;
+    marks[k] = mark;
 }
 
-// The letter's table becomes that of the text: 0, or the refusal's number.
+// The letter's table becomes that of the text, and its mark the one given: 0, or the refusal's number.
 pub fn define(
     cells: &mut [i32; STORE_CELLS],
     used: &mut [usize; LETTERS],
+    marks: &mut [u32; LETTERS],
     vars: [i32; VARIABLES],
     letter: u8,
+    mark: u32,
     text: &[u8],
 ) -> u32
-    ensures { λ r. ⌜ told (storeOf (now (cells .exit)) (now (used .exit)) vars) r (defines letter (now (text .entry)))
-        ≡ storeCall (storeOf (now (cells .entry)) (now (used .entry)) vars) (defines letter (now (text .entry))) ⌝ }
+    ensures { λ r. ⌜ told (storeOf (now (cells .exit)) (now (used .exit)) (now (marks .exit)) vars) r (defines letter mark (now (text .entry)))
+        ≡ storeCall (storeOf (now (cells .entry)) (now (used .entry)) (now (marks .entry)) vars) (defines letter mark (now (text .entry))) ⌝ }
 {
-    if !validation::sound_store(used, vars) {
+    let guards = *marks;
+    if !validation::sound_store(used, guards, vars) {
         return Refusal::BadStore.number();
     }
     if !validation::is_letter(letter) {
         return Refusal::NoSuchLetter.number();
+    }
+    if !validation::is_mark(mark) {
+        return Refusal::BadMark.number();
     }
     let l = linker::link(text);
     if l.number != 0 {
         return l.number;
     }
     let table = l.table;
-    put(cells, used, (letter - b'a') as usize, table);
+    put(cells, used, marks, (letter - b'a') as usize, table, mark);
     0
 }
 
-// The letter's text goes: 0, or the refusal's number.
+// The letter's text goes, and its mark is open: 0, or the refusal's number.
 pub fn withdraw(
     cells: &mut [i32; STORE_CELLS],
     used: &mut [usize; LETTERS],
+    marks: &mut [u32; LETTERS],
     vars: [i32; VARIABLES],
     letter: u8,
 ) -> u32
-    ensures { λ r. ⌜ told (storeOf (now (cells .exit)) (now (used .exit)) vars) r (withdraws letter)
-        ≡ storeCall (storeOf (now (cells .entry)) (now (used .entry)) vars) (withdraws letter) ⌝ }
+    ensures { λ r. ⌜ told (storeOf (now (cells .exit)) (now (used .exit)) (now (marks .exit)) vars) r (withdraws letter)
+        ≡ storeCall (storeOf (now (cells .entry)) (now (used .entry)) (now (marks .entry)) vars) (withdraws letter) ⌝ }
 {
-    if !validation::sound_store(used, vars) {
+    let guards = *marks;
+    if !validation::sound_store(used, guards, vars) {
         return Refusal::BadStore.number();
     }
     if !validation::is_letter(letter) {
@@ -90,6 +107,6 @@ pub fn withdraw(
     if used[k] == 0 {
         return Refusal::NotStanding.number();
     }
-    put(cells, used, k, Table::fresh());
+    put(cells, used, marks, k, Table::fresh(), OPEN);
     0
 }

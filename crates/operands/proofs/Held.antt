@@ -10,7 +10,7 @@ use lib.ListN.{length, getD, set, length-set}
 use lib.Seq.{getD-set-same, getD-set-other}
 use borrow.Author.Tests.{eqb-true}
 use Rattle.language.specs.declared.Ending.{Ending}
-use Rattle.language.specs.declared.Ending.the-variants.{Finished, Spent, ListEmpty, ListFull, Range, ZeroDivisor, NoInput, PaperOut, NoText, DeepCalls, Damaged}
+use Rattle.language.specs.declared.Ending.the-variants.{Finished, Spent, ListEmpty, ListFull, Range, ZeroDivisor, NoInput, PaperOut, NoText, DeepCalls, Damaged, StewardCall}
 use Rattle.language.specs.Answers.{endingNumber}
 use Rattle.language.specs.Lookup.{lookup}
 use Rattle.language.specs.Effects.{State}
@@ -101,8 +101,8 @@ module _ (k : ℕ) where
   pub ending-known : (endingNumber (endingOf k) ≡ 0 → ⊥) → endingNumber (endingOf k) ≡ k
   ending-known h = found-known stopEndings h
 
--- no ending's number is above that of a damaged table
-pub ending-high : (e : Ending) → endingNumber e ≤ endingNumber Damaged
+-- no ending's number is above that of a steward call
+pub ending-high : (e : Ending) → endingNumber e ≤ endingNumber StewardCall
 ending-high Finished = omega arith
 ending-high Spent = omega arith
 ending-high ListEmpty = omega arith
@@ -114,3 +114,4 @@ ending-high PaperOut = omega arith
 ending-high NoText = omega arith
 ending-high DeepCalls = omega arith
 ending-high Damaged = omega arith
+ending-high StewardCall = omega arith

@@ -51,21 +51,21 @@ abbrev pub verdictTurn : Verdict → ℕ → ℕ → Spot → Turn
 verdictTurn (answers t s) n f m = onward (pick t n f) s m
 verdictTurn (stalls e) n f m = halt e m
 
--- the call of letter a, which stands or not: "27 before 28" is said by `onCall`
-abbrev pub callTurn : Bool → ℕ → ℕ → ℕ → Spot → Turn
-callTurn u a n f m =
-    onCall (present u) (length (m .frames)) (λ e. halt e m)
+-- the call of letter a, which stands or not, and is barred or not: the order of what stops it is said by `onCall`
+abbrev pub callTurn : Bool → Bool → ℕ → ℕ → ℕ → Spot → Turn
+callTurn u b a n f m =
+    onCall (present u) b (length (m .frames)) (λ e. halt e m)
     (λ _. enters (spot a codeStart (record { letter = m .letter; next = n; exit = f } ∷ m .frames) (m .state) (m .left - 1)))
 
--- where these letters stand
-module _ (stands : ℕ → Bool) where
+-- where these letters stand, and these are barred to the caller
+module _ (stands barred : ℕ → Bool) where
   -- a turn at an instruction, with a step left
   abbrev pub instructionTurn : Instruction → Spot → Turn
   instructionTurn (transfer n) m = onward n (m .state) m
   instructionTurn fail m = back (m .frames) false (m .state) (m .left - 1)
   instructionTurn (operateAt o n) m = effectTurn (perform o (m .state)) n m
   instructionTurn (testAt p n f) m = verdictTurn (ask (m .letter) p (m .state)) n f m
-  instructionTurn (callAt a n f) m = callTurn (stands a) a n f m
+  instructionTurn (callAt a n f) m = callTurn (stands a) (barred a) a n f m
 
   -- a turn where the due cell decodes so: "29, 20, then for that mark .."
   abbrev pub decodedTurn : Decoded → Spot → Turn

@@ -37,6 +37,6 @@ module _ (s : State) (b : List ℕ) (n : ℕ) (size : length b ≡ n) where
 -- ── a turn at an operation ──────────────────────────────────────────────────────────────────────
 
 -- where the due cell decodes to an operation with this effect, and a step is left
-pub operate-turn : (stands : ℕ → Bool) (x : Decoded) (o : Operation) (q : ℕ) (m : Spot) (e : Effect) → x ≡ code (operateAt o q) → (m .left ≡ 0 → ⊥)
-    → perform o (m .state) ≡ e → effectTurn e q m ≡ decodedTurn stands x m
-operate-turn stands x o q m e d l p = rw (d, ne-eqb (m .left) 0 l, p)
+pub operate-turn : (stands barred : ℕ → Bool) (x : Decoded) (o : Operation) (q : ℕ) (m : Spot) (e : Effect) → x ≡ code (operateAt o q) → (m .left ≡ 0 → ⊥)
+    → perform o (m .state) ≡ e → effectTurn e q m ≡ decodedTurn stands barred x m
+operate-turn stands barred x o q m e d l p = rw (d, ne-eqb (m .left) 0 l, p)

@@ -1,6 +1,6 @@
 -- What the report is, test by test.
 use mathlib.Core.Path.{_≡_, refl, ap, _∙_}
-use mathlib.Core.Bool.{true, false}
+use mathlib.Core.Bool.{true, false, _&&_}
 use mathlib.Core.List.{List}
 use Prim.Native.Nat.{ℕ, zero, suc, _*_, _<_}
 use lib.IntN.{ℤ}
@@ -10,7 +10,7 @@ use Rattle.language.specs.declared.Ending.the-variants.{Damaged}
 use Rattle.language.specs.Answers.{refusalNumber, endingNumber}
 use Rattle.language.specs.Limits.{maxLetters}
 use Rattle.language.specs.Letters.{isLetter, letterIndex}
-use Rattle.language.specs.Tables.{standsAt, soundUsed}
+use Rattle.language.specs.Tables.{standsAt, soundUsed, soundMarks}
 use Rattle.language.specs.Values.{lawful}
 use Rattle.language.proofs.Tests.{first-true}
 use Rattle.book.specs.Store.{Store, storeOf, soundStore}
@@ -47,26 +47,27 @@ module _ (st : Store) (l : ℕ) (r m : List ℕ) where
 -- the counts of a sound store
 pub sound-counts : (st : Store) → soundStore st ≡ true → soundUsed (st .used) ≡ true
 unfolding soundStore
-sound-counts st h = first-true (soundUsed (st .used)) (lawful (st .variables)) h
+sound-counts st h =
+    first-true (soundUsed (st .used)) (soundMarks (st .marks)) (first-true (soundUsed (st .used) && soundMarks (st .marks)) (lawful (st .variables)) h)
 
 -- what is read of a store's tables depends on its cells and counts alone
-module _ (c : List ℤ) (u : List ℕ) (v : List ℤ) where
-  pub readable-tables : eachOf maxLetters (readable (tables c u)) ≡ eachOf maxLetters (readable (storeOf c u v))
+module _ (c : List ℤ) (u k : List ℕ) (v : List ℤ) where
+  pub readable-tables : eachOf maxLetters (readable (tables c u)) ≡ eachOf maxLetters (readable (storeOf c u k v))
   unfolding readable
   readable-tables = refl
 
-  rows-tables : (n : ℕ) → rows (tables c u) n ≡ rows (storeOf c u v) n
+  rows-tables : (n : ℕ) → rows (tables c u) n ≡ rows (storeOf c u k v) n
   unfolding rows calledBy
   rows-tables zero = refl
-  rows-tables (suc n) = ap (λ m. ticked m (n * maxLetters) (calledBy (storeOf c u v) n)) (rows-tables n)
+  rows-tables (suc n) = ap (λ m. ticked m (n * maxLetters) (calledBy (storeOf c u k v) n)) (rows-tables n)
 
   -- what is followed in the array from a letter's own mark is what it reaches
   pub followed : (d marks : List ℕ) (a : ℕ) → soundUsed u ≡ true → a < maxLetters → d ≡ rows (tables c u) maxLetters
-      → marks ≡ spreadBy (inArray d) mostCalls (set (replicate maxLetters 0) a 1) → marks ≡ reachedBy (storeOf c u v) a
+      → marks ≡ spreadBy (inArray d) mostCalls (set (replicate maxLetters 0) a 1) → marks ≡ reachedBy (storeOf c u k v) a
   unfolding reachedBy
-  followed d marks a h k e f =
-      let st = storeOf c u v in
+  followed d marks a h lt e f =
+      let st = storeOf c u k v in
       f
       ∙ ap (λ x. spreadBy (inArray x) mostCalls (set (replicate maxLetters 0) a 1)) (e ∙ rows-tables maxLetters)
-      ∙ ap (λ x. spreadBy (inArray (rows st maxLetters)) mostCalls x) (start-marks a k)
+      ∙ ap (λ x. spreadBy (inArray (rows st maxLetters)) mostCalls x) (start-marks a lt)
       ∙ rounds-same (inArray (rows st maxLetters)) (calls st) mostCalls _ (array-calls st h)

@@ -1,6 +1,6 @@
 -- The claims of U2 about the report.
 use mathlib.Core.Path.{_≡_, refl, sym, ap, _∙_, subst}
-use mathlib.Core.Bool.{Bool, true, false, cond, not, _&&_, false≢true}
+use mathlib.Core.Bool.{Bool, true, false, cond, not, _&&_, false≢true, _||_}
 use mathlib.Core.Option.{Option, none, some}
 use mathlib.Core.List.{List, []}
 use Prim.Native.Nat.{ℕ, suc, _<_}
@@ -12,7 +12,8 @@ use Rattle.language.specs.declared.Refusal.{Refusal}
 use Rattle.language.specs.declared.Refusal.the-variants.{NoSuchLetter, NotStanding, BadStore}
 use Rattle.language.specs.declared.Ending.{Ending}
 use Rattle.language.specs.declared.Ending.the-variants.{Damaged}
-use Rattle.language.specs.Answers.{refusalNumber, endingNumber}
+use Rattle.language.specs.Answers.{refusalNumber, isRefusal, endingNumber}
+use Rattle.language.specs.Roles.{letterMark}
 use Rattle.language.specs.Limits.{maxLetters}
 use Rattle.language.specs.Letters.{isLetter, letterIndex}
 use Rattle.language.specs.Syntax.{Expr}
@@ -21,7 +22,7 @@ use Rattle.language.specs.Effects.{State, start}
 use Rattle.language.specs.Meaning.{Outcome, ended, stopped, meaning}
 use Rattle.language.specs.Tables.{standsAt}
 use Rattle.language.specs.Statements.{Holds}
-use Rattle.language.proofs.Answers.{refusal-bounds, refusal-not-zero}
+use Rattle.language.proofs.Answers.{refusal-refuses, refusal-not-zero}
 use Rattle.language.proofs.Letters.{letter-lt}
 use Rattle.language.proofs.MeaningEndings.{Common, AllCalls, StopsSo, stops-meaning}
 use Rattle.language.proofs.Tests.{both-true, first-true, second-true}
@@ -136,7 +137,7 @@ record Lacks (st : Store) (k : ℕ) : Type 0 where
 -- a common ending's number is not 27
 common-other : (e : Ending) → Common e ≡ true → endingNumber e ≡ 27 → ⊥
 common-other e h z =
-    let k : Common e ≡ false = ap (λ n. cond (eqb n 27) false (between 20 28 n)) z in
+    let k : Common e ≡ false = ap (λ n. cond (eqb n 27) false (between 20 28 n || eqb n 34)) z in
     false≢true (sym k ∙ h)
 
 module _ (st : Store) (b : Book) (ag : Agree st b) where
@@ -148,19 +149,20 @@ module _ (st : Store) (b : Book) (ag : Agree st b) where
 
   -- every table is read without damage
   all-readable : eachOf maxLetters (readable st) ≡ true
-  all-readable = each-all maxLetters (readable st) (λ a. holds-readable st texts a (texts a) (ag .holds a))
+  all-readable = each-all maxLetters (readable st) (λ a. holds-readable st a (texts a) (ag .holds a))
 
   -- what a text that is reached calls is reached
   calls-reached : (k a : ℕ) (w : Expr) → Reaches st k a → texts a ≡ some w → AllCalls (Reaches st k) w
   calls-reached k a w r e =
-      let h = written st texts a w (holds-at a (some w) e) in
+      let h = written st a w (holds-at a (some w) e) in
       all-called (Reaches st k) w [] (λ c i. reaches-call st k a c r (ap (member c) (h .calls) ∙ i))
 
   -- a run of letter k that ends 27
-  lacks-meaning : (k : ℕ) (w : Expr) → texts k ≡ some w → (g d n : ℕ) (s : State) → StopsSo (λ e. endingNumber e ≡ 27 → Lacks st k) (meaning texts g k w d s n)
-  lacks-meaning k w e g d n s =
-      stops-meaning (λ x. endingNumber x ≡ 27 → Lacks st k) (Reaches st k) texts (λ x h z. absurd (common-other x h z)) (λ a v r f. calls-reached k a v r f)
-      (λ a r f _. record { letter = a; reached = r; textless = unwritten st texts a (holds-at a none f) })
+  lacks-meaning : (k : ℕ) (w : Expr) → texts k ≡ some w → (c g d n : ℕ) (s : State)
+      → StopsSo (λ e. endingNumber e ≡ 27 → Lacks st k) (meaning texts (letterMark (b .marks)) c g k w d s n)
+  lacks-meaning k w e c g d n s =
+      stops-meaning (λ x. endingNumber x ≡ 27 → Lacks st k) (Reaches st k) texts (letterMark (b .marks)) c (λ x h z. absurd (common-other x h z)) (λ a v r f. calls-reached k a v r f)
+      (λ a r f _. record { letter = a; reached = r; textless = unwritten st a (holds-at a none f) })
       g k w d s n (calls-reached k k w (reaches-itself st k) e)
 
   lacks-reported : (v : List ℤ) (n k : ℕ) (o : Outcome) → StopsSo (λ e. endingNumber e ≡ 27 → Lacks st k) o → reported v n o .report .number ≡ 27 → Lacks st k
@@ -176,7 +178,7 @@ module _ (st : Store) (b : Book) (ag : Agree st b) where
 
   -- a letter stands where it has a text
   stands-text : (a : ℕ) (w : Expr) → texts a ≡ some w → standsAt (st .used) a ≡ true
-  stands-text a w e = written st texts a w (holds-at a (some w) e) .stands
+  stands-text a w e = written st a w (holds-at a (some w) e) .stands
 
   blocked-text : (x : Run) → isLetter (x .letter) ≡ true → (t : Option Expr) → texts (letterIndex (x .letter)) ≡ t → isText t ≡ true
       → reported (b .variables) (x .allowance) (obeyed b x t) .report .number ≡ 27 → Blocked (x .letter)
@@ -189,22 +191,22 @@ module _ (st : Store) (b : Book) (ag : Agree st b) where
         stands = stands-text k w e;
         lacks =
             lacks-reported (b .variables) (x .allowance) k
-            (meaning texts (suc (x .allowance)) k w 0 (start (b .variables) (x .inputs) (x .output)) (x .allowance))
-            (lacks-meaning k w e (suc (x .allowance)) 0 (x .allowance) (start (b .variables) (x .inputs) (x .output))) z;
+            (meaning texts (letterMark (b .marks)) (x .role) (suc (x .allowance)) k w 0 (start (b .variables) (x .inputs) (x .output)) (x .allowance))
+            (lacks-meaning k w e (x .role) (suc (x .allowance)) 0 (x .allowance) (start (b .variables) (x .inputs) (x .output))) z;
       }
 
-  blocked-answer : (x : Run) (o : Option Refusal) → refusal true (λ a. isText (texts a)) (runs x) ≡ o
+  blocked-answer : (x : Run) (o : Option Refusal) → refusal true (λ a. isText (texts a)) (letterMark (b .marks)) (runs x) ≡ o
       → answer o b (b .variables) (runs x) (bookAccepts b (runs x)) .reply .report .number ≡ 27 → Blocked (x .letter)
   unfolding answer tells bookAccepts bookRan
-  blocked-answer x (some r) e z = absurd (let k = refusal-bounds r .1 in omega (arith, k))
+  blocked-answer x (some r) e z = absurd (false≢true (sym (ap isRefusal z) ∙ refusal-refuses r))
   blocked-answer x none e z =
       let has : ℕ → Bool = λ a. isText (texts a) in
-      blocked-text x (free-letter true has (runs x) e) (texts (letterIndex (x .letter))) refl (free-run true has x e .standing) z
+      blocked-text x (free-letter true has (letterMark (b .marks)) (runs x) e) (texts (letterIndex (x .letter))) refl (free-run true has (letterMark (b .marks)) x e .standing) z
 
   blocked : (x : Run) → storeCall st (runs x) .reply .report .number ≡ 27 → Blocked (x .letter)
   unfolding bookCall
   blocked x z =
-      blocked-answer x (refusal true (λ a. isText (texts a)) (runs x)) refl
+      blocked-answer x (refusal true (λ a. isText (texts a)) (letterMark (b .marks)) (runs x)) refl
       (sym (ap (λ (r : Reply). r .report .number) (both-call st b (runs x) ag .reply)) ∙ z)
 
   -- the report of a letter that stands

@@ -23,4 +23,4 @@ chains-hold = (refl, (refl, (refl, (refl, (refl, tt)))))
 
 pub strays-hold : Hold strays
 unfolding soundStore isValue lawful marks callsIn undamaged calledBy spread spreadBy reachedBy missingOf readable reach decode
-strays-hold = (refl, (refl, (refl, (refl, (refl, (refl, (refl, (refl, (refl, (refl, (refl, (refl, (refl, (refl, (refl, tt)))))))))))))))
+strays-hold = (refl, (refl, (refl, (refl, (refl, (refl, (refl, (refl, (refl, (refl, (refl, (refl, (refl, (refl, (refl, (refl, (refl, tt)))))))))))))))))

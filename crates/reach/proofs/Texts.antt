@@ -94,7 +94,7 @@ module _ (c : List ℤ) (base end : ℕ) (few : end ≤ maxCells) where
 
 -- ── a store's letter ────────────────────────────────────────────────────────────────────────────
 
-module _ (st : Store) (texts : ℕ → Option Expr) (a : ℕ) where
+module _ (st : Store) (a : ℕ) where
   abbrev table : Table
   table = tableAt (st .cells) (st .used) a
 
@@ -107,7 +107,7 @@ module _ (st : Store) (texts : ℕ → Option Expr) (a : ℕ) where
   pub written : (w : Expr) → Holds table (some w) → Written w
   unfolding calledBy
   written w h =
-      let s = stored-stands texts (st .cells) (st .used) a (some w) h in
+      let s = stored-stands (st .cells) (st .used) a (some w) h in
       let u : getD (st .used) a 0 ≡ usedCells w = ap (λ (t : Table). t .used) (h .table) in
       let k = accepted-used (h .text) w (h .reads) in
       let x = whole-text (st .cells) (a * maxCells) (getD (st .used) a 0) (omega (arith, u, k)) w (s .1) (s .2) in
@@ -115,7 +115,7 @@ module _ (st : Store) (texts : ℕ → Option Expr) (a : ℕ) where
 
   -- a letter without a text
   pub unwritten : Holds table none → standsAt (st .used) a ≡ false
-  unwritten h = stored-stands texts (st .cells) (st .used) a none h
+  unwritten h = stored-stands (st .cells) (st .used) a none h
 
   -- either is read without damage
   pub holds-readable : (x : Option Expr) → Holds table x → readable st a ≡ true

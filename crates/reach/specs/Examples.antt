@@ -11,9 +11,10 @@ use lib.Dec.{eqb}
 use Rattle.language.specs.declared.Table.{Table}
 use Rattle.language.specs.Limits.{maxLetters}
 use Rattle.language.specs.Reading.{read, exprOf}
+use Rattle.language.specs.Layout.{tableOf}
 use Rattle.language.specs.Trials.{bytes, neg}
 use Rattle.book.specs.Calls.{defines, withdraws}
-use Rattle.book.specs.Store.{Store, storeOf, freshStore, entryOf}
+use Rattle.book.specs.Store.{Store, storeOf, freshStore}
 use Rattle.book.specs.History.{storeAfter}
 use Rattle.reach.specs.Reach.{marksBy, spreadBy, mostCalls, Report, reach}
 
@@ -53,7 +54,7 @@ Hold ((x, y) ∷ l) = (x ≡ y) × Hold l
 -- the tables of these texts, of letter a, b and so on; of a text that is refused, as the empty one is, that of a cleared letter
 abbrev pub tablesOf : List String → List Table
 tablesOf [] = []
-tablesOf (t ∷ ts) = entryOf (exprOf (read (bytes t))) .table ∷ tablesOf ts
+tablesOf (t ∷ ts) = tableOf (exprOf (read (bytes t))) ∷ tablesOf ts
 
 -- their cells, letter after letter
 abbrev pub cellsOf : List Table → List ℤ
@@ -62,7 +63,7 @@ cellsOf (t ∷ ts) = t .cells ++ cellsOf ts
 
 -- the report of letter l of a store with these texts
 abbrev pub texts : List String → Char → Shown
-texts ts l = of (storeOf (cellsOf (tablesOf ts)) (map (λ (t : Table). t .used) (tablesOf ts)) []) (code l)
+texts ts l = of (storeOf (cellsOf (tablesOf ts)) (map (λ (t : Table). t .used) (tablesOf ts)) [] []) (code l)
 
 -- reports over texts. proofs/Examples `reports-hold`
 abbrev pub reports : List (Shown × Shown)
@@ -92,8 +93,8 @@ reports =
 -- proofs/Examples `changes-hold`
 abbrev pub changes : List (Shown × Shown)
 changes =
-    (of (storeAfter freshStore (defines 97 (bytes "(b;)") ∷ defines 97 (bytes "(c;)") ∷ [])) 97, says 0 "ac" "c")
-    ∷ (of (storeAfter freshStore (defines 97 (bytes "(b;)") ∷ defines 98 (bytes "(c;)") ∷ withdraws 98 ∷ [])) 97, says 0 "ab" "b")
+    (of (storeAfter freshStore (defines 97 0 (bytes "(b;)") ∷ defines 97 0 (bytes "(c;)") ∷ [])) 97, says 0 "ac" "c")
+    ∷ (of (storeAfter freshStore (defines 97 0 (bytes "(b;)") ∷ defines 98 1 (bytes "(c;)") ∷ withdraws 98 ∷ [])) 97, says 0 "ab" "b")
     ∷ []
 
 -- ── 26 letters in a chain ───────────────────────────────────────────────────────────────────────
@@ -118,14 +119,19 @@ chains =
 abbrev pub padded : List ℤ → ℕ → List ℤ
 padded l n = l ++ replicate n (pos 0)
 
--- letter a with `(b;)`, and letter b with the cells given, then n that hold 0, u of them used; letters from c on have no text; the variables v
+-- letter a with `(b;)`, and letter b with the cells given, then n that hold 0, u of them used; letters from c on have no text; the marks k and the
+-- variables v
+abbrev pub marked : List ℤ → ℕ → ℕ → List ℕ → List ℤ → Store
+marked l n u k v =
+    storeOf (padded (pos 2000 ∷ neg 98 ∷ pos 5 ∷ pos 6 ∷ pos 0 ∷ pos 1 ∷ []) 244 ++ padded l n) (6 ∷ u ∷ []) k v
+
+-- with every letter open
 abbrev pub beside : List ℤ → ℕ → ℕ → List ℤ → Store
-beside l n u v =
-    storeOf (padded (pos 2000 ∷ neg 98 ∷ pos 5 ∷ pos 6 ∷ pos 0 ∷ pos 1 ∷ []) 244 ++ padded l n) (6 ∷ u ∷ []) v
+beside l n u v = marked l n u [] v
 
 -- the same where a's text is `(;)`, which calls nothing
 abbrev pub apart : List ℤ → ℕ → ℕ → Store
-apart l n u = storeOf (padded (pos 2000 ∷ pos 4 ∷ pos 0 ∷ pos 1 ∷ []) 246 ++ padded l n) (4 ∷ u ∷ []) []
+apart l n u = storeOf (padded (pos 2000 ∷ pos 4 ∷ pos 0 ∷ pos 1 ∷ []) 246 ++ padded l n) (4 ∷ u ∷ []) [] []
 
 -- `(c)`: code, false, the last `)`, the last cell
 abbrev pub callsC : List ℤ
@@ -150,9 +156,12 @@ strays =
     ∷ (of (apart (pos 2000 ∷ neg 66 ∷ pos 5 ∷ pos 0 ∷ pos 1 ∷ []) 245 5) 97, says 29 "???" "??")
     -- damage that no run comes to, after a transfer to the last cell
     ∷ (of (apart (pos 2000 ∷ pos 5 ∷ neg 66 ∷ pos 0 ∷ pos 1 ∷ []) 245 5) 97, says 29 "???" "??")
-    -- "13, 1, 10 in that order, then 29": a bad count beside a damaged table, a bad variable, no letter, a letter without a text
+    -- a steward's letter is reached as any other
+    ∷ (of (marked callsC 245 5 (0 ∷ 1 ∷ 1 ∷ []) []) 97, says 0 "abc" "c")
+    -- "13, 1, 10 in that order, then 29": a bad count beside a damaged table, a bad variable, a bad mark, no letter, a letter without a text
     ∷ (of (apart callsC 245 2) 96, says 13 "???" "??")
     ∷ (of (beside (pos 2000 ∷ neg 66 ∷ pos 5 ∷ pos 0 ∷ pos 1 ∷ []) 245 5 (pos 1000000000 ∷ [])) 97, says 13 "???" "??")
+    ∷ (of (marked (pos 2000 ∷ neg 66 ∷ pos 5 ∷ pos 0 ∷ pos 1 ∷ []) 245 5 (0 ∷ 0 ∷ 2 ∷ []) []) 96, says 13 "???" "??")
     ∷ (of (apart (pos 2000 ∷ neg 66 ∷ pos 5 ∷ pos 0 ∷ pos 1 ∷ []) 245 5) 96, says 1 "???" "??")
     ∷ (of (apart (pos 2000 ∷ neg 66 ∷ pos 5 ∷ pos 0 ∷ pos 1 ∷ []) 245 5) 99, says 10 "???" "??")
     ∷ []

@@ -16,7 +16,7 @@ use Rattle.reach.specs.Reach.{calledBy, marksBy, isMarked, eachOf, reada
 
 -- the store of these cells and counts; what its tables call depends on nothing else
 abbrev pub tables : List ℤ → List ℕ → Store
-tables c u = storeOf c u []
+tables c u = storeOf c u [] []
 
 -- the array after the first n letters are read: letter a's row starts at place 26 a
 unfoldable pub rows : Store → ℕ → List ℕ

@@ -161,22 +161,24 @@ fn without_text(used: &[usize; LETTERS], marks: [u8; LETTERS]) -> [u8; LETTERS]
 // ── the report ──────────────────────────────────────────────────────────────────────────────────
 
 // The letters that a letter reaches, and those of them that have no text, marked 1 in the two arrays: 0. Where the call is refused, the number of the
-// refusal, and both arrays stay as they were: "13, 1, 10 in that order, then 29".
+// refusal, and both arrays stay as they were: "13, 1, 10 in that order, then 29". `stewards` are the store's marks, open or steward's, which 13 looks at.
 pub fn reach(
     cells: &[i32; STORE_CELLS],
     used: &[usize; LETTERS],
+    stewards: &[u32; LETTERS],
     vars: &[i32; VARIABLES],
     letter: u8,
     reached: &mut [u8; LETTERS],
     missing: &mut [u8; LETTERS],
 ) -> u32
     ensures { λ r. ⌜ reports r (now (reached .exit)) (now (missing .exit))
-        ≡ reach (storeOf (now (cells .entry)) (now (used .entry)) (now (vars .entry))) letter (now (reached .entry)) (now (missing .entry)) ⌝ }
+        ≡ reach (storeOf (now (cells .entry)) (now (used .entry)) (now (stewards .entry)) (now (vars .entry))) letter (now (reached .entry)) (now (missing .entry)) ⌝ }
 {
     let values = *vars;
+    let guards = *stewards;
     let counts = *used;
     validation::all_there(counts);
-    if !validation::sound_store(used, values) {
+    if !validation::sound_store(used, guards, values) {
         return Refusal::BadStore.number();
     }
     if !validation::is_letter(letter) {

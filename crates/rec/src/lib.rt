@@ -15,6 +15,7 @@ ghost use Rattle.console.specs.Day.{dayOf};
 ghost use Rattle.day.specs.Played.{played};
 ghost use Rattle.rec.specs.Doors.{truthFigure, opens, opened, hands, handed, Copies, Tells};
 use language::LETTERS;
+use language::OPEN;
 use language::STORE_CELLS;
 use language::Table;
 use language::VARIABLES;
@@ -27,49 +28,54 @@ const PAYOUT_FIGURES: usize = 5;
 
 // ── a store of lent arrays ──────────────────────────────────────────────────────────────────────
 
-// Every letter cleared, every variable 0, whatever the arrays held.
+// Every letter cleared and open, every variable 0, whatever the arrays held.
 #[no_mangle]
 pub extern "C" fn rec_lent_fresh(
     cells: &mut [i32; STORE_CELLS],
     used: &mut [usize; LETTERS],
+    marks: &mut [u32; LETTERS],
     vars: &mut [i32; VARIABLES],
 )
-    ensures { λ _. ⌜ storeOf (now (cells .exit)) (now (used .exit)) (now (vars .exit)) ≡ freshStore ⌝ }
+    ensures { λ _. ⌜ storeOf (now (cells .exit)) (now (used .exit)) (now (marks .exit)) (now (vars .exit)) ≡ freshStore ⌝ }
 {
     *cells = [0i32; STORE_CELLS];
     *used = [0usize; LETTERS];
+    *marks = [OPEN; LETTERS];
     *vars = [0i32; VARIABLES];
 }
 
-// The letter's table becomes that of the text: 0, or the refusal's number.
+// The letter's table becomes that of the text, and its mark the one given: 0, or the refusal's number.
 #[no_mangle]
 pub extern "C" fn rec_lent_define(
     cells: &mut [i32; STORE_CELLS],
     used: &mut [usize; LETTERS],
+    marks: &mut [u32; LETTERS],
     vars: &[i32; VARIABLES],
     letter: u8,
+    mark: u32,
     text: &[u8],
 ) -> u32
-    ensures { λ r. ⌜ told (storeOf (now (cells .exit)) (now (used .exit)) (now (vars .entry))) r (defines letter (now (text .entry)))
-        ≡ storeCall (storeOf (now (cells .entry)) (now (used .entry)) (now (vars .entry))) (defines letter (now (text .entry))) ⌝ }
+    ensures { λ r. ⌜ told (storeOf (now (cells .exit)) (now (used .exit)) (now (marks .exit)) (now (vars .entry))) r (defines letter mark (now (text .entry)))
+        ≡ storeCall (storeOf (now (cells .entry)) (now (used .entry)) (now (marks .entry)) (now (vars .entry))) (defines letter mark (now (text .entry))) ⌝ }
 {
     let values = *vars;
-    lent::define(cells, used, values, letter, text)
+    lent::define(cells, used, marks, values, letter, mark, text)
 }
 
-// The letter's text goes: 0, or the refusal's number.
+// The letter's text goes, and its mark is open: 0, or the refusal's number.
 #[no_mangle]
 pub extern "C" fn rec_lent_withdraw(
     cells: &mut [i32; STORE_CELLS],
     used: &mut [usize; LETTERS],
+    marks: &mut [u32; LETTERS],
     vars: &[i32; VARIABLES],
     letter: u8,
 ) -> u32
-    ensures { λ r. ⌜ told (storeOf (now (cells .exit)) (now (used .exit)) (now (vars .entry))) r (withdraws letter)
-        ≡ storeCall (storeOf (now (cells .entry)) (now (used .entry)) (now (vars .entry))) (withdraws letter) ⌝ }
+    ensures { λ r. ⌜ told (storeOf (now (cells .exit)) (now (used .exit)) (now (marks .exit)) (now (vars .entry))) r (withdraws letter)
+        ≡ storeCall (storeOf (now (cells .entry)) (now (used .entry)) (now (marks .entry)) (now (vars .entry))) (withdraws letter) ⌝ }
 {
     let values = *vars;
-    lent::withdraw(cells, used, values, letter)
+    lent::withdraw(cells, used, marks, values, letter)
 }
 
 fn truth_figure(t: bool) -> usize
@@ -78,14 +84,16 @@ fn truth_figure(t: bool) -> usize
     if t { 1 } else { 0 }
 }
 
-// The answer's number. The variables, the list and the output are left as the run leaves them; the figures are truth, steps, list height, inputs
-// taken and output length.
+// The answer's number, for a caller with this role. The variables, the list and the output are left as the run leaves them; the figures are truth, steps,
+// list height, inputs taken and output length.
 #[no_mangle]
 pub extern "C" fn rec_lent_run(
     cells: &[i32; STORE_CELLS],
     used: &[usize; LETTERS],
+    marks: &[u32; LETTERS],
     vars: &mut [i32; VARIABLES],
     letter: u8,
+    role: u32,
     allowance: u32,
     inputs: &[i32],
     list: &mut [i32],
@@ -93,10 +101,21 @@ pub extern "C" fn rec_lent_run(
     figures: &mut [usize; FIGURES],
 ) -> u32
     ensures { λ r. ⌜ opens r (now (vars .exit)) (now (list .exit)) (now (output .exit)) (now (figures .exit))
-        ≡ opened (storeCall (storeOf (now (cells .entry)) (now (used .entry)) (now (vars .entry)))
-        (running letter allowance (now (inputs .entry)) (now (list .entry)) (now (output .entry)))) ⌝ }
+        ≡ opened (storeCall (storeOf (now (cells .entry)) (now (used .entry)) (now (marks .entry)) (now (vars .entry)))
+        (running letter role allowance (now (inputs .entry)) (now (list .entry)) (now (output .entry)))) ⌝ }
 {
-    let report = runner::run(cells, used, vars, letter, allowance, inputs, list, output);
+    let report = runner::run(
+        cells,
+        used,
+        marks,
+        vars,
+        letter,
+        role,
+        allowance,
+        inputs,
+        list,
+        output,
+    );
     *figures = [
         truth_figure(report.truth),
         report.steps as usize,
@@ -113,15 +132,16 @@ pub extern "C" fn rec_lent_run(
 pub extern "C" fn rec_lent_reach(
     cells: &[i32; STORE_CELLS],
     used: &[usize; LETTERS],
+    marks: &[u32; LETTERS],
     vars: &[i32; VARIABLES],
     letter: u8,
     reached: &mut [u8; LETTERS],
     missing: &mut [u8; LETTERS],
 ) -> u32
     ensures { λ r. ⌜ reports r (now (reached .exit)) (now (missing .exit))
-        ≡ reach (storeOf (now (cells .entry)) (now (used .entry)) (now (vars .entry))) letter (now (reached .entry)) (now (missing .entry)) ⌝ }
+        ≡ reach (storeOf (now (cells .entry)) (now (used .entry)) (now (marks .entry)) (now (vars .entry))) letter (now (reached .entry)) (now (missing .entry)) ⌝ }
 {
-    reach::reach(cells, used, vars, letter, reached, missing)
+    reach::reach(cells, used, marks, vars, letter, reached, missing)
 }
 
 // ── a text alone ────────────────────────────────────────────────────────────────────────────────

@@ -43,13 +43,13 @@ figures (a ∷ b ∷ c ∷ d ∷ e ∷ []) = record { before = 0; paid = pos 0; 
 figures (a ∷ b ∷ c ∷ d ∷ e ∷ f ∷ l) =
     record { before = c .report .number; paid = getD (c .list) 0 (pos 0); after = e .report .number; withdrawn = f .report .number }
 
--- a run of letter byte l with allowance 9
+-- a cashier's run of letter byte l with allowance 9
 abbrev run : ℕ → Run
-run l = record { letter = l; allowance = 9; inputs = []; list = list; output = output }
+run l = record { letter = l; role = 0; allowance = 9; inputs = []; list = list; output = output }
 
 calls : List Call
 calls =
-    defines 112 (bytes "('/5';)") ∷ defines 113 (bytes "(p;)") ∷ runs (run 113) ∷ withdraws 112 ∷ runs (run 113) ∷ runs (run 112) ∷ []
+    defines 112 0 (bytes "('/5';)") ∷ defines 113 0 (bytes "(p;)") ∷ runs (run 113) ∷ withdraws 112 ∷ runs (run 113) ∷ runs (run 112) ∷ []
 
 book : figures (bookAnswers freshBook calls) ≡ record { before = 0; paid = pos 5; after = 27; withdrawn = 10 }
 unfolding calls answers bookCall freshBook lawful perform ask onCall
@@ -59,7 +59,7 @@ module _ (s : Store) (p q : Told) (first : Answer) (l : List ℤ) (o : List ℕ)
     (l″ : List ℤ) (o″ : List ℕ) where
   abbrev steps : List Step
   steps =
-      tellsOf (defines 112 (bytes "('/5';)")) p ∷ tellsOf (defines 113 (bytes "(p;)")) q ∷ runOf (runs (run 113)) first l o ∷ tellsOf (withdraws 112) x
+      tellsOf (defines 112 0 (bytes "('/5';)")) p ∷ tellsOf (defines 113 0 (bytes "(p;)")) q ∷ runOf (runs (run 113)) first l o ∷ tellsOf (withdraws 112) x
       ∷ runOf (runs (run 113)) second l′ o′ ∷ runOf (runs (run 112)) third l″ o″ ∷ []
 
   pub shown : stored s ≡ freshStore → Promised s steps

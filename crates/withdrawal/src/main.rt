@@ -1,6 +1,8 @@
 // A withdrawn letter pays no more through a letter that calls it. Letter p pays 5 and q calls p; p is withdrawn between two runs of q.
 use engine::Store;
+use language::CASHIER;
 use language::HEIGHT;
+use language::OPEN;
 ghost use mathlib.Core.Path.{_≡_};
 ghost use lib.IntN.{pos};
 
@@ -23,12 +25,15 @@ pub fn session() -> Shown
     let mut output = [0u8; 16];
     let mut output2 = [0u8; 16];
     let mut output3 = [0u8; 16];
-    let p = Store::fresh().define(b'p', b"('/5';)");
-    let q = p.store.define(b'q', b"(p;)");
-    let first = q.store.run(b'q', 9, &none, &mut list, &mut output);
+    let p = Store::fresh().define(b'p', OPEN, b"('/5';)");
+    let q = p.store.define(b'q', OPEN, b"(p;)");
+    let first = q.store.run(b'q', CASHIER, 9, &none, &mut list, &mut output);
     let x = first.store.withdraw(b'p');
-    let second = x.store.run(b'q', 9, &none, &mut list2, &mut output2);
-    let third = second.store.run(b'p', 9, &none, &mut list3, &mut output3);
+    let second = x.store
+        .run(b'q', CASHIER, 9, &none, &mut list2, &mut output2);
+    let third = second
+        .store
+        .run(b'p', CASHIER, 9, &none, &mut list3, &mut output3);
     Shown {
         before: first.report.number,
         paid: list[0],

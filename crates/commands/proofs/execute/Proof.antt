@@ -20,8 +20,8 @@ module _ (c : tie.After-run) where
   short : c .run .result .written ≤ outputBytes
   short = bounded _ _ 0 _ _ _ _ _ _ (c .run .ensures) .written
 
-cast-t21 : tie.Need-cast-t21
-cast-t21 c = record { fits = omega (arith, tall (c .before .before)) }
+cast-t22 : tie.Need-cast-t22
+cast-t22 c = record { fits = omega (arith, tall (c .before .before)) }
 
 array-share-prefix-output : tie.Need-array-share-prefix-output
 array-share-prefix-output c = omega (arith, short (c .before .before .before .before .before .before .before .before .before))
@@ -38,5 +38,5 @@ returns c =
 
 pub execute-spec : {M : Type 1} → statement M
 execute-spec =
-    tie.close (tie.spec (λ c. search needs) (λ c. search needs) (λ c κs. search needs) cast-t21 (λ c. search needs) (λ c κs. search needs)
+    tie.close (tie.spec (λ c. search needs) (λ c. search needs) (λ c κs. search needs) cast-t22 (λ c. search needs) (λ c κs. search needs)
     (λ c κs. search needs) array-share-prefix-output slice-aggregate-write-output (λ c κs. search needs) (λ c. search needs) returns)

@@ -29,16 +29,16 @@ returns : tie.Need-returns
 returns c = no-room _ _ _ _ (c .if1 .taken)
 
 sub-define : tie.Need-sub-define
-sub-define c = asks (c .before .before .before .before .before .before) _ (c .before .before .before .before .command .given .1) .within
+sub-define c = asks (c .before .before .before .before .before .before .before) _ (c .before .before .before .before .before .command .given .1) .within
 
 part-define-start : tie.Need-part-define-start
-part-define-start c = asks (c .before .before .before .before .before .before) _ (c .before .before .before .before .command .given .1) .within
+part-define-start c = asks (c .before .before .before .before .before .before .before) _ (c .before .before .before .before .before .command .given .1) .within
 
 array-share-prefix-inputs : tie.Need-array-share-prefix-inputs
-array-share-prefix-inputs c = omega (arith, asks (c .before .before .before .before .before .before) _ (c .before .before .before .before .command3 .given .1) .within, c .before .before .before .before .before .before .parse .ensures .places)
+array-share-prefix-inputs c = omega (arith, asks (c .before .before .before .before .before .before .before) _ (c .before .before .before .before .before .command3 .given .1) .within, c .before .before .before .before .before .before .before .parse .ensures .places)
 
 slice-aggregate-execute : tie.Need-slice-aggregate-execute
-slice-aggregate-execute c = sym (length-take-le _ _ (omega (arith, asks (c .before .before .before .before .before .before .before) _ (c .before .before .before .before .before .command3 .given .1) .within, c .before .before .before .before .before .before .before .parse .ensures .places)))
+slice-aggregate-execute c = sym (length-take-le _ _ (omega (arith, asks (c .before .before .before .before .before .before .before .before) _ (c .before .before .before .before .before .before .command3 .given .1) .within, c .before .before .before .before .before .before .before .before .parse .ensures .places)))
 
 enum-told : tie.Need-enum-told
 enum-told c = search needs
@@ -46,33 +46,33 @@ enum-told c = search needs
 returns-2 : tie.Need-returns-2
 unfolding granted
 returns-2 c =
-    let s = c .before .before .before .before .before .before .before .before .before .before .before .before .before .before .before .before .before .args in
-    let st = storeOf (now (s .cells)) (now (s .used)) (now (s .vars)) in
+    let s = c .before .before .before .before .before .before .before .before .before .before .before .before .before .before .before .before .before .before .args in
+    let st = storeOf (now (s .cells)) (now (s .used)) (now (s .marks)) (now (s .vars)) in
     told-printed st _ (s .number) _ _ (now (s .paper)) _ _ (c .before .before .before .before .define .ensures) (c .before .before .tell .ensures)
-    ∙ ap (λ t. printed (now (s .paper)) (granted storeCall st (s .number) (define (c .before .before .before .before .before .before .before .before .before .before .command .given .0 .0) t)))
+    ∙ ap (λ t. printed (now (s .paper)) (granted storeCall st (s .number) (define (c .before .before .before .before .before .before .before .before .before .before .before .command .given .0 .0) t)))
     (take-all (length (now (s .line)) - fieldStart) (drop fieldStart (now (s .line))) (omega (arith, length-drop fieldStart (now (s .line)))))
-    ∙ by-request st (s .number) (now (s .line)) (now (s .paper)) _ (c .before .before .before .before .before .before .before .before .before .before .before .before .before .before .if1 .left) (asks (c .before .before .before .before .before .before .before .before .before .before .before .before) _ (c .before .before .before .before .before .before .before .before .before .before .command .given .1) .means)
+    ∙ by-request st (s .number) (now (s .line)) (now (s .paper)) _ (c .before .before .before .before .before .before .before .before .before .before .before .before .before .before .before .if1 .left) (asks (c .before .before .before .before .before .before .before .before .before .before .before .before .before) _ (c .before .before .before .before .before .before .before .before .before .before .before .command .given .1) .means)
 
 returns-3 : tie.Need-returns-3
 unfolding granted
 returns-3 c =
-    let s = c .before .before .before .before .before .before .before .before .before .before .before .before .before .before .before .before .args in
-    let st = storeOf (now (s .cells)) (now (s .used)) (now (s .vars)) in
+    let s = c .before .before .before .before .before .before .before .before .before .before .before .before .before .before .before .before .before .args in
+    let st = storeOf (now (s .cells)) (now (s .used)) (now (s .marks)) (now (s .vars)) in
     told-printed st _ (s .number) _ _ (now (s .paper)) _ _ (c .before .before .before .before .withdraw .ensures) (c .before .before .tell2 .ensures)
-    ∙ by-request st (s .number) (now (s .line)) (now (s .paper)) _ (c .before .before .before .before .before .before .before .before .before .before .before .before .before .if1 .left) (asks (c .before .before .before .before .before .before .before .before .before .before .before) _ (c .before .before .before .before .before .before .before .before .before .command2 .given .1) .means)
+    ∙ by-request st (s .number) (now (s .line)) (now (s .paper)) _ (c .before .before .before .before .before .before .before .before .before .before .before .before .before .before .if1 .left) (asks (c .before .before .before .before .before .before .before .before .before .before .before .before) _ (c .before .before .before .before .before .before .before .before .before .before .command2 .given .1) .means)
 
 returns-4 : tie.Need-returns-4
 returns-4 c =
-    let s = c .before .before .before .before .before .before .before .before .before .before .before .before .before .before .before .before .args in
-    let st = storeOf (now (s .cells)) (now (s .used)) (now (s .vars)) in
+    let s = c .before .before .before .before .before .before .before .before .before .before .before .before .before .before .before .before .before .args in
+    let st = storeOf (now (s .cells)) (now (s .used)) (now (s .marks)) (now (s .vars)) in
     c .before .before .execute .ensures
-    ∙ by-request st (s .number) (now (s .line)) (now (s .paper)) _ (c .before .before .before .before .before .before .before .before .before .before .before .before .before .if1 .left) (asks (c .before .before .before .before .before .before .before .before .before .before .before) _ (c .before .before .before .before .before .before .before .before .before .command3 .given .1) .means)
+    ∙ by-request st (s .number) (now (s .line)) (now (s .paper)) _ (c .before .before .before .before .before .before .before .before .before .before .before .before .before .before .if1 .left) (asks (c .before .before .before .before .before .before .before .before .before .before .before .before) _ (c .before .before .before .before .before .before .before .before .before .before .command3 .given .1) .means)
 
 returns-5 : tie.Need-returns-5
 unfolding granted
 returns-5 c =
     let s = c .before .before .before .before .before .before .before .before .before .before .before .before .args in
-    let st = storeOf (now (s .cells)) (now (s .used)) (now (s .vars)) in
+    let st = storeOf (now (s .cells)) (now (s .used)) (now (s .marks)) (now (s .vars)) in
     (λ i. record { store = st; paper = c .before .before .tell3 .ensures i })
     ∙ ap (λ n. printed (now (s .paper)) (serves st (figures (told (s .number) n)))) (c .before .before .before .number .ensures)
     ∙ by-request st (s .number) (now (s .line)) (now (s .paper)) _ (c .before .before .before .before .before .before .before .before .before .if1 .left) (asks (c .before .before .before .before .before .before .before) _ (c .before .before .before .before .before .enum-told .given .1) .means)

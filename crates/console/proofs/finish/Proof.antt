@@ -27,13 +27,13 @@ returns-4 c =
 
 slice-aggregate-perform : tie.Need-slice-aggregate-perform
 slice-aggregate-perform c =
-    let k = c .before .before .before .before .before in
-    sym (length-take-le (k .least .result) (now (c .before .before .before .before .before .before .before .before .before .before .before .before .before .before .args .line)) (omega (arith, k .least .ensures, c .before .before .before .before .before .before .before .before .before .before .before .if1 .left)))
+    let k = c .before .before .before .before .before .before in
+    sym (length-take-le (k .least .result) (now (c .before .before .before .before .before .before .before .before .before .before .before .before .before .before .before .args .line)) (omega (arith, k .least .ensures, c .before .before .before .before .before .before .before .before .before .before .before .before .if1 .left)))
 
 returns-5 : tie.Need-returns-5
 returns-5 c =
     ends _ _ _ _
-    (ends-line _ _ _ (c .before .before .before .before .before .before .before .before .before .before .before .before .before .before .before .if1 .left) (c .before .before .before .before .before .before .before .before .before .before .before .before .before .before .if2 .left) _ _ _ _ (c .before .before .before .before .before .before .before .before .before .before .before .before .if3 .left) (omega (arith, c .before .before .before .before .before .before .before .before .before .before .if4 .left, c .before .before .before .before .before .before .before .before .before .before .before .before .before .before .before .if1 .left, length-take (c .before .before .before .before .before .before .before .before .before .before .before .before .before .before .before .before .before .before .args .place .kept) (now (c .before .before .before .before .before .before .before .before .before .before .before .before .before .before .before .before .before .before .args .line)))) (kept-all _ _ _ (c .before .before .before .before .before .before .before .before .before .before .before .before .before .before .before .if1 .left) (c .before .before .before .before .before .before .before .before .before .least .ensures)) (c .before .before .perform .ensures))
+    (ends-line _ _ _ (c .before .before .before .before .before .before .before .before .before .before .before .before .before .before .before .before .if1 .left) (c .before .before .before .before .before .before .before .before .before .before .before .before .before .before .before .if2 .left) _ _ _ _ (c .before .before .before .before .before .before .before .before .before .before .before .before .before .if3 .left) (omega (arith, c .before .before .before .before .before .before .before .before .before .before .before .if4 .left, c .before .before .before .before .before .before .before .before .before .before .before .before .before .before .before .before .if1 .left, length-take (c .before .before .before .before .before .before .before .before .before .before .before .before .before .before .before .before .before .before .before .args .place .kept) (now (c .before .before .before .before .before .before .before .before .before .before .before .before .before .before .before .before .before .before .before .args .line)))) (kept-all _ _ _ (c .before .before .before .before .before .before .before .before .before .before .before .before .before .before .before .before .if1 .left) (c .before .before .before .before .before .before .before .before .before .before .least .ensures)) (c .before .before .perform .ensures))
 
 pub finish-spec : {M : Type 1} → statement M
 finish-spec =

@@ -44,13 +44,13 @@ line-found c = c .before .before
 
 slice-aggregate-perform : tie.Need-slice-aggregate-perform
 slice-aggregate-perform c =
-    let e = line-found (c .before .before .before) in
+    let e = line-found (c .before .before .before .before) in
     let k = e .before .before .before in
     sym (length-take-le (k .keep .result) (k .keep .last .0) (omega (arith, k .keep .ensures .few, e .before .before .before .before .before .before .before .before .before .before .if1 .left)))
 
 returns-5 : tie.Need-returns-5
 returns-5 c =
-    let e = line-found (c .before .before .before .before .before .before .before) in
+    let e = line-found (c .before .before .before .before .before .before .before .before) in
     steps _ _ _ _ _
     (steps-line _ _ _ (e .before .before .before .before .before .before .before .before .before .before .if1 .left) (e .before .before .before .before .before .before .before .before .before .if2 .left) (e .before .before .before .before .before .before .before .if3 .left) _ _ _ (e .before .before .before .before .before .before .line-end .ensures) (e .before .before .before .keep .ensures .bytes) _ _ _ (inside e)
     (c .before .before .perform .ensures))

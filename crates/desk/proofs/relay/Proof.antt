@@ -15,53 +15,53 @@ use Rattle.desk.proofs.relay.Statement.{statement}
 use Rattle.desk.proofs.relay.Tie as tie
 
 abbrev Inv-loop : tie.InvT-loop
-Inv-loop cells₀ used₀ vars₀ line₀ part out₀ person p₀ at₀ cells used vars line out p at =
-    Relaying part (progress (storeOf cells₀ used₀ vars₀) p₀ line₀) at (progress (storeOf cells used vars) p line) line out
+Inv-loop cells₀ used₀ marks₀ vars₀ line₀ part out₀ person p₀ at₀ cells used marks vars line out p at =
+    Relaying part (progress (storeOf cells₀ used₀ marks₀ vars₀) p₀ line₀) at (progress (storeOf cells used marks vars) p line) line out
 
 abbrev μ-loop : tie.MeasureT-loop
-μ-loop cells₀ used₀ vars₀ line₀ part out₀ person p₀ at₀ cells used vars line out p at = length part - at
+μ-loop cells₀ used₀ marks₀ vars₀ line₀ part out₀ person p₀ at₀ cells used marks vars line out p at = length part - at
 
 loop-holds : tie.Need-loop-holds Inv-loop μ-loop
 loop-holds c = record { inside = omega arith; buffers = c .before .before .before .pre; bytes = []; day = λ rest. refl }
 
 sub-serve : tie.Need-sub-serve Inv-loop μ-loop
-sub-serve c = omega (arith, c .before .before .before .before .before .loop .inv .inside)
+sub-serve c = omega (arith, c .before .before .before .before .before .before .loop .inv .inside)
 
 part-serve-start : tie.Need-part-serve-start Inv-loop μ-loop
-part-serve-start c = omega (arith, c .before .before .before .before .before .loop .inv .inside)
+part-serve-start c = omega (arith, c .before .before .before .before .before .before .loop .inv .inside)
 
 part-serve-end : tie.Need-part-serve-end Inv-loop μ-loop
 part-serve-end c = search needs
 
 serve-requires : tie.Need-serve-requires Inv-loop μ-loop
-serve-requires c κs = c .before .before .before .before .before .before .before .loop .inv .buffers
+serve-requires c κs = c .before .before .before .before .before .before .before .before .loop .inv .buffers
 
 add-at : tie.Need-add-at Inv-loop μ-loop
 add-at c =
     let a = c .before .before .before .before .before .before in
-    let s = now (c .before .before .before .before .before .before .before .before .before .before .before .before .before .before .before .before .before .before .args .part) in
-    let h : c .before .before .before .before .before .before .before .before .before .before .before .before .before .before .loop .at + a .serve .result .taken ≤ length s = omega (arith, a .serve .ensures .inside, rest-size s (c .before .before .before .before .before .before .before .before .before .before .before .before .before .before .loop .at), c .before .before .before .before .before .before .before .before .before .before .before .before .before .before .loop .inv .inside) in
-    record { fits = omega (arith, h, c .before .before .before .before .before .before .before .before .before .before .before .before .before .before .before .before) }
+    let s = now (c .before .before .before .before .before .before .before .before .before .before .before .before .before .before .before .before .before .before .before .args .part) in
+    let h : c .before .before .before .before .before .before .before .before .before .before .before .before .before .before .before .loop .at + a .serve .result .taken ≤ length s = omega (arith, a .serve .ensures .inside, rest-size s (c .before .before .before .before .before .before .before .before .before .before .before .before .before .before .before .loop .at), c .before .before .before .before .before .before .before .before .before .before .before .before .before .before .before .loop .inv .inside) in
+    record { fits = omega (arith, h, c .before .before .before .before .before .before .before .before .before .before .before .before .before .before .before .before .before) }
 
 write-answers-requires : tie.Need-write-answers-requires Inv-loop μ-loop
-write-answers-requires c κs = omega (arith, c .before .before .before .before .before .before .before .serve .ensures .few, c .before .before .before .before, c .before .before .before .before .before .before .before .before .before .before .before .before .before .before .before .loop .inv .buffers .out)
+write-answers-requires c κs = omega (arith, c .before .before .before .before .before .before .before .serve .ensures .few, c .before .before .before .before, c .before .before .before .before .before .before .before .before .before .before .before .before .before .before .before .before .loop .inv .buffers .out)
 
 same-length : tie.Need-same-length Inv-loop μ-loop
-same-length c = omega (arith, c .before .before .before .before .before .before .before .before, c .before .before .before .before .before .before .before .before .before .before .before .before .before .before .before .before .before .loop .inv .buffers, c .before .before .before .before .before .before .before .before .before .before .before .before .before .before .before .before .before .before .before .before .before .pre)
+same-length c = omega (arith, c .before .before .before .before .before .before .before .before, c .before .before .before .before .before .before .before .before .before .before .before .before .before .before .before .before .before .before .loop .inv .buffers, c .before .before .before .before .before .before .before .before .before .before .before .before .before .before .before .before .before .before .before .before .before .before .pre)
 
 same-length-2 : tie.Need-same-length-2 Inv-loop μ-loop
-same-length-2 c = omega (arith, c .before .before .before .before .before .before, c .before .before .before .before .before .before .before .before .before .before .before .before .before .before .before .before .before .loop .inv .buffers, c .before .before .before .before .before .before .before .before .before .before .before .before .before .before .before .before .before .before .before .before .before .pre)
+same-length-2 c = omega (arith, c .before .before .before .before .before .before, c .before .before .before .before .before .before .before .before .before .before .before .before .before .before .before .before .before .before .loop .inv .buffers, c .before .before .before .before .before .before .before .before .before .before .before .before .before .before .before .before .before .before .before .before .before .before .pre)
 
 returns : tie.Need-returns Inv-loop μ-loop
-returns c = relays-some _ _ _ _ _ _ (c .before .before .before .before .before .before .before .before .before .before .before .before .before .before .before .before .before .loop .inv) _ (c .before .before .before .before .before .before .before .before .before .serve .ensures) _ (λ e. absurd (true≢false (sym e ∙ not-true _ (c .if1 .taken))))
+returns c = relays-some _ _ _ _ _ _ (c .before .before .before .before .before .before .before .before .before .before .before .before .before .before .before .before .before .before .loop .inv) _ (c .before .before .before .before .before .before .before .before .before .serve .ensures) _ (λ e. absurd (true≢false (sym e ∙ not-true _ (c .if1 .taken))))
 
 loop-less : tie.Need-loop-less Inv-loop μ-loop
 loop-less c =
     let a = c .before .before .before .before .before .before .before .before .before in
-    omega (arith, a .serve .ensures .some, rest-size (now (c .before .before .before .before .before .before .before .before .before .before .before .before .before .before .before .before .before .before .before .before .before .args .part)) (c .before .before .before .before .before .before .before .before .before .before .before .before .before .before .before .before .before .loop .at), c .before .before .before .before .before .before .before .before .before .before .before .before .before .before .before .before .loop-test .taken)
+    omega (arith, a .serve .ensures .some, rest-size (now (c .before .before .before .before .before .before .before .before .before .before .before .before .before .before .before .before .before .before .before .before .before .before .args .part)) (c .before .before .before .before .before .before .before .before .before .before .before .before .before .before .before .before .before .before .loop .at), c .before .before .before .before .before .before .before .before .before .before .before .before .before .before .before .before .before .loop-test .taken)
 
 loop-again : tie.Need-loop-again Inv-loop μ-loop
-loop-again c = relaying-more _ _ _ _ _ _ (c .before .before .before .before .before .before .before .before .before .before .before .before .before .before .before .before .before .loop .inv) _ (c .before .before .before .before .before .before .before .before .before .serve .ensures) _ _ (record { line = omega (arith, c .before .before .before .before .before .before .before .before, c .before .before .before .before .before .before .before .before .before .before .before .before .before .before .before .before .before .loop .inv .buffers .line); out = omega (arith, c .before .before .before .before .before .before, c .before .before .before .before .before .before .before .before .before .before .before .before .before .before .before .before .before .loop .inv .buffers .out) })
+loop-again c = relaying-more _ _ _ _ _ _ (c .before .before .before .before .before .before .before .before .before .before .before .before .before .before .before .before .before .before .loop .inv) _ (c .before .before .before .before .before .before .before .before .before .serve .ensures) _ _ (record { line = omega (arith, c .before .before .before .before .before .before .before .before, c .before .before .before .before .before .before .before .before .before .before .before .before .before .before .before .before .before .before .loop .inv .buffers .line); out = omega (arith, c .before .before .before .before .before .before, c .before .before .before .before .before .before .before .before .before .before .before .before .before .before .before .before .before .before .loop .inv .buffers .out) })
 
 same-length-3 : tie.Need-same-length-3 Inv-loop μ-loop
 same-length-3 c = omega (arith, c .before .loop .inv .buffers, c .before .before .before .before .before .pre)

@@ -15,23 +15,23 @@ use Rattle.desk.proofs.serve.Statement.{statement}
 use Rattle.desk.proofs.serve.Tie as tie
 
 abbrev Inv-loop : tie.InvT-loop
-Inv-loop cells₀ used₀ vars₀ line₀ part out₀ person p₀ at₀ held₀ steps₀ cells used vars line out p at held steps =
-    Serving part (progress (storeOf cells₀ used₀ vars₀) p₀ line₀) at held (progress (storeOf cells used vars) p line) line out
+Inv-loop cells₀ used₀ marks₀ vars₀ line₀ part out₀ person p₀ at₀ held₀ steps₀ cells used marks vars line out p at held steps =
+    Serving part (progress (storeOf cells₀ used₀ marks₀ vars₀) p₀ line₀) at held (progress (storeOf cells used marks vars) p line) line out
 
 abbrev μ-loop : tie.MeasureT-loop
-μ-loop cells₀ used₀ vars₀ line₀ part out₀ person p₀ at₀ held₀ steps₀ cells used vars line out p at held steps =
+μ-loop cells₀ used₀ marks₀ vars₀ line₀ part out₀ person p₀ at₀ held₀ steps₀ cells used marks vars line out p at held steps =
     length part - at
 
 -- what a step comes to
 module _ (c : tie.After-step Inv-loop μ-loop) where
-  room : c .before .before .before .before .before .before .before .before .before .before .before .before .before .loop .held + paperBytes ≤ heldBytes
-  room = c .before .before .before .before .before .before .before .before .is-due .ensures .room (c .before .before .before .before .before .before .before .if1 .left) (c .before .before .before .before .before .before .before .before .before .before .before .before .before .loop .inv .few)
+  room : c .before .before .before .before .before .before .before .before .before .before .before .before .before .before .loop .held + paperBytes ≤ heldBytes
+  room = c .before .before .before .before .before .before .before .before .before .is-due .ensures .room (c .before .before .before .before .before .before .before .before .if1 .left) (c .before .before .before .before .before .before .before .before .before .before .before .before .before .before .loop .inv .few)
 
-  takes : Takes (restOf (now (c .before .before .before .before .before .before .before .before .before .before .before .before .before .before .before .before .before .args .part)) (c .before .before .before .before .before .before .before .before .before .before .before .before .before .loop .at)) (c .step .result .taken)
-  takes = step-went _ _ _ _ _ _ _ (c .before .before .before .before .before .before .before .before .before .before .before .before .before .loop .inv) (c .before .before .before .before .before .before .before .before .before .before .before .before .loop-test .taken) room _ (c .step .ensures) .takes
+  takes : Takes (restOf (now (c .before .before .before .before .before .before .before .before .before .before .before .before .before .before .before .before .before .before .args .part)) (c .before .before .before .before .before .before .before .before .before .before .before .before .before .before .loop .at)) (c .step .result .taken)
+  takes = step-went _ _ _ _ _ _ _ (c .before .before .before .before .before .before .before .before .before .before .before .before .before .before .loop .inv) (c .before .before .before .before .before .before .before .before .before .before .before .before .before .loop-test .taken) room _ (c .step .ensures) .takes
 
   little : c .step .result .printed ≤ paperBytes
-  little = step-went _ _ _ _ _ _ _ (c .before .before .before .before .before .before .before .before .before .before .before .before .before .loop .inv) (c .before .before .before .before .before .before .before .before .before .before .before .before .loop-test .taken) room _ (c .step .ensures) .little
+  little = step-went _ _ _ _ _ _ _ (c .before .before .before .before .before .before .before .before .before .before .before .before .before .before .loop .inv) (c .before .before .before .before .before .before .before .before .before .before .before .before .before .loop-test .taken) room _ (c .step .ensures) .little
 
 loop-holds : tie.Need-loop-holds Inv-loop μ-loop
 loop-holds c = record { inside = omega arith; after = omega arith; few = omega arith; buffers = c .before .before .before .pre; day = λ rest. refl }
@@ -64,19 +64,19 @@ returns : tie.Need-returns Inv-loop μ-loop
 returns c = let l = c .before .before .before .before .before .before .loop in record { some = omega (arith, l .inv .after, c .before .is-due .ensures .held (c .if1 .taken)); inside = l .inv .inside; few = l .inv .few; day = l .inv .day }
 
 sub-step : tie.Need-sub-step Inv-loop μ-loop
-sub-step c = omega (arith, c .before .before .before .before .before .before .before .before .before .before .loop .inv .inside)
+sub-step c = omega (arith, c .before .before .before .before .before .before .before .before .before .before .before .loop .inv .inside)
 
 part-step-start : tie.Need-part-step-start Inv-loop μ-loop
-part-step-start c = omega (arith, c .before .before .before .before .before .before .before .before .before .before .loop .inv .inside)
+part-step-start c = omega (arith, c .before .before .before .before .before .before .before .before .before .before .before .loop .inv .inside)
 
 part-step-end : tie.Need-part-step-end Inv-loop μ-loop
 part-step-end c = search needs
 
 sub-step-2 : tie.Need-sub-step-2 Inv-loop μ-loop
-sub-step-2 c = omega (arith, c .before .before .before .before .before .before .before .before .before .before .before .loop .inv .few, c .before .before .before .before .before .before .before .before .before .before .before .loop .inv .buffers .out)
+sub-step-2 c = omega (arith, c .before .before .before .before .before .before .before .before .before .before .before .before .loop .inv .few, c .before .before .before .before .before .before .before .before .before .before .before .before .loop .inv .buffers .out)
 
 part-step-start-2 : tie.Need-part-step-start-2 Inv-loop μ-loop
-part-step-start-2 c = omega (arith, c .before .before .before .before .before .before .before .before .before .before .before .loop .inv .few, c .before .before .before .before .before .before .before .before .before .before .before .loop .inv .buffers .out)
+part-step-start-2 c = omega (arith, c .before .before .before .before .before .before .before .before .before .before .before .before .loop .inv .few, c .before .before .before .before .before .before .before .before .before .before .before .before .loop .inv .buffers .out)
 
 part-step-end-2 : tie.Need-part-step-end-2 Inv-loop μ-loop
 part-step-end-2 c = search needs
@@ -87,26 +87,26 @@ step-requires c κs = search needs
 add-at : tie.Need-add-at Inv-loop μ-loop
 add-at c =
     let a = c .before .before .before .before .before .before in
-    let s = now (c .before .before .before .before .before .before .before .before .before .before .before .before .before .before .before .before .before .before .before .before .before .before .before .args .part) in
-    let h : c .before .before .before .before .before .before .before .before .before .before .before .before .before .before .before .before .before .before .before .loop .at + a .step .result .taken ≤ length s = omega (arith, takes a .inside, rest-size s (c .before .before .before .before .before .before .before .before .before .before .before .before .before .before .before .before .before .before .before .loop .at), c .before .before .before .before .before .before .before .before .before .before .before .before .before .before .before .before .before .before .before .loop .inv .inside) in
-    record { fits = omega (arith, h, c .before .before .before .before .before .before .before .before .before .before .before .before .before .before .before .before .before .before .before .before .before) }
+    let s = now (c .before .before .before .before .before .before .before .before .before .before .before .before .before .before .before .before .before .before .before .before .before .before .before .before .args .part) in
+    let h : c .before .before .before .before .before .before .before .before .before .before .before .before .before .before .before .before .before .before .before .before .loop .at + a .step .result .taken ≤ length s = omega (arith, takes a .inside, rest-size s (c .before .before .before .before .before .before .before .before .before .before .before .before .before .before .before .before .before .before .before .before .loop .at), c .before .before .before .before .before .before .before .before .before .before .before .before .before .before .before .before .before .before .before .before .loop .inv .inside) in
+    record { fits = omega (arith, h, c .before .before .before .before .before .before .before .before .before .before .before .before .before .before .before .before .before .before .before .before .before .before) }
 
 add-held : tie.Need-add-held Inv-loop μ-loop
 add-held c =
     let a = c .before .before .before .before .before .before .before in
-    let h : c .before .before .before .before .before .before .before .before .before .before .before .before .before .before .before .before .before .before .before .before .loop .held + a .step .result .printed ≤ heldBytes = omega (arith, little a, room a) in
+    let h : c .before .before .before .before .before .before .before .before .before .before .before .before .before .before .before .before .before .before .before .before .before .loop .held + a .step .result .printed ≤ heldBytes = omega (arith, little a, room a) in
     search needs
 
 loop-less : tie.Need-loop-less Inv-loop μ-loop
 loop-less c =
     let a = c .before .before .before .before .before .before .before in
-    omega (arith, takes a .some, rest-size (now (c .before .before .before .before .before .before .before .before .before .before .before .before .before .before .before .before .before .before .before .before .before .before .before .before .args .part)) (c .before .before .before .before .before .before .before .before .before .before .before .before .before .before .before .before .before .before .before .before .loop .at), c .before .before .before .before .before .before .before .before .before .before .before .before .before .before .before .before .before .before .before .loop-test .taken)
+    omega (arith, takes a .some, rest-size (now (c .before .before .before .before .before .before .before .before .before .before .before .before .before .before .before .before .before .before .before .before .before .before .before .before .before .args .part)) (c .before .before .before .before .before .before .before .before .before .before .before .before .before .before .before .before .before .before .before .before .before .loop .at), c .before .before .before .before .before .before .before .before .before .before .before .before .before .before .before .before .before .before .before .before .loop-test .taken)
 
 loop-again : tie.Need-loop-again Inv-loop μ-loop
 loop-again c =
     let a = c .before .before .before .before .before .before .before in
-    serving-more _ _ _ _ _ _ _ (c .before .before .before .before .before .before .before .before .before .before .before .before .before .before .before .before .before .before .before .before .loop .inv) (c .before .before .before .before .before .before .before .before .before .before .before .before .before .before .before .before .before .before .before .loop-test .taken) (room a) _ (a .step .ensures) _ _ (omega (arith, c .before .before .before .before .before .before, c .before .before .before .before .before .before .before .before .before .before .before .before .before .before .before .before .before .before .before .before .loop .inv .buffers .line))
-    (omega (arith, c .before .before .before .before, c .before .before .before .before .before .before .before .before .before .before .before .before .before .before .before .before .before .before .before .before .loop .inv .buffers .out))
+    serving-more _ _ _ _ _ _ _ (c .before .before .before .before .before .before .before .before .before .before .before .before .before .before .before .before .before .before .before .before .before .loop .inv) (c .before .before .before .before .before .before .before .before .before .before .before .before .before .before .before .before .before .before .before .before .loop-test .taken) (room a) _ (a .step .ensures) _ _ (omega (arith, c .before .before .before .before .before .before, c .before .before .before .before .before .before .before .before .before .before .before .before .before .before .before .before .before .before .before .before .before .loop .inv .buffers .line))
+    (omega (arith, c .before .before .before .before, c .before .before .before .before .before .before .before .before .before .before .before .before .before .before .before .before .before .before .before .before .before .loop .inv .buffers .out))
 
 same-length-3 : tie.Need-same-length-3 Inv-loop μ-loop
 same-length-3 c = omega (arith, c .before .loop .inv .buffers, c .before .before .before .before .before .pre)

@@ -21,14 +21,13 @@ returns-3 : tie.Need-returns-3
 returns-3 c = withdraw-refused _ _ _ (c .before .before .before .before .before .before .sound-store .ensures) (c .before .before .before .before .before .if1 .left) _ (c .before .before .before .before .is-letter .ensures) (c .before .before .before .if2 .left) _ (c .before .if3 .taken) (c .number3 .ensures)
 
 put-requires : tie.Need-put-requires
-put-requires c κs = letter-index _ _ (c .before .before .before .before .before .before .is-letter .ensures) (c .before .before .before .before .before .if2 .left)
+put-requires c κs = letter-index _ _ (c .before .before .before .before .before .before .before .is-letter .ensures) (c .before .before .before .before .before .before .if2 .left)
 
 returns-4 : tie.Need-returns-4
 returns-4 c =
-    withdraw-accepted _ _ _ (c .before .before .before .before .before .before .before .before .before .sound-store .ensures) (c .before .before .before .before .before .before .before .before .if1 .left) _ (c .before .before .before .before .before .before .before .is-letter .ensures) (c .before .before .before .before .before .before .if2 .left) _ _ (c .before .before .before .before .if3 .left) (c .before .fresh .ensures)
-    (c .put .ensures (c .before .before .before .before .before .before .before .before .before .before .before .args .vars))
+    withdraw-accepted _ _ _ (c .before .before .before .before .before .before .before .before .before .before .sound-store .ensures) (c .before .before .before .before .before .before .before .before .before .if1 .left) _ (c .before .before .before .before .before .before .before .before .is-letter .ensures) (c .before .before .before .before .before .before .before .if2 .left) _ _ (c .before .before .before .before .before .if3 .left) (c .before .fresh .ensures)
+    (c .put .ensures (c .before .before .before .before .before .before .before .before .before .before .before .before .before .args .vars))
 
 pub withdraw-spec : {M : Type 1} → statement M
 withdraw-spec =
-    tie.close (tie.spec (λ c κs. search needs) (λ c κs. search needs) returns (λ c κs. search needs) (λ c κs. search needs) returns-2 sub-k
-    (λ c. search needs) (λ c. search needs) element-copy-out-if3 (λ c κs. search needs) returns-3 (λ c κs. search needs) put-requires returns-4)
+    tie.close (tie.spec (λ c κs. search needs) (λ c κs. search needs) returns (λ c κs. search needs) (λ c κs. search needs) returns-2 sub-k (λ c. search needs) (λ c. search needs) element-copy-out-if3 (λ c κs. search needs) returns-3 (λ c κs. search needs) put-requires returns-4)

@@ -16,26 +16,26 @@ use Rattle.reach.proofs.reach.Tie as tie
 
 module _ (s : tie.Start) where
   abbrev st : Store
-  st = storeOf (now (s .args .cells)) (now (s .args .used)) (now (s .args .vars))
+  st = storeOf (now (s .args .cells)) (now (s .args .used)) (now (s .args .stewards)) (now (s .args .vars))
 
   -- a refusal
   abbrev says : ℕ → Report
   says n = reports n (now (s .args .reached)) (now (s .args .missing))
 
 -- the store is sound
-sound : (c : tie.Else1) → soundStore (st (c .before .before .before .before .before)) ≡ c .before .sound-store .result
+sound : (c : tie.Else1) → soundStore (st (c .before .before .before .before .before .before)) ≡ c .before .sound-store .result
 unfolding soundStore
 sound c = sym (c .before .sound-store .ensures)
 
-fine : (c : tie.Else1) → soundStore (st (c .before .before .before .before .before)) ≡ true
+fine : (c : tie.Else1) → soundStore (st (c .before .before .before .before .before .before)) ≡ true
 fine c = sound c ∙ not-false _ (c .if1 .left)
 
 returns : tie.Need-returns
 unfolding soundStore
-returns c = ap (says (c .before .before .before .before .before .before)) (c .number .ensures) ∙ sym (store-refused (st (c .before .before .before .before .before .before)) _ _ _ (sym (c .before .before .sound-store .ensures) ∙ not-true _ (c .before .if1 .taken)))
+returns c = ap (says (c .before .before .before .before .before .before .before)) (c .number .ensures) ∙ sym (store-refused (st (c .before .before .before .before .before .before .before)) _ _ _ (sym (c .before .before .sound-store .ensures) ∙ not-true _ (c .before .if1 .taken)))
 
 returns-2 : tie.Need-returns-2
-returns-2 c = ap (says (c .before .before .before .before .before .before .before .before)) (c .number2 .ensures) ∙ sym (letter-refused (st (c .before .before .before .before .before .before .before .before)) _ _ _ (fine (c .before .before .before)) (sym (c .before .before .is-letter .ensures) ∙ not-true _ (c .before .if2 .taken)))
+returns-2 c = ap (says (c .before .before .before .before .before .before .before .before .before)) (c .number2 .ensures) ∙ sym (letter-refused (st (c .before .before .before .before .before .before .before .before .before)) _ _ _ (fine (c .before .before .before)) (sym (c .before .before .is-letter .ensures) ∙ not-true _ (c .before .if2 .taken)))
 
 sub-a : tie.Need-sub-a
 sub-a c = letter-from _ _ (c .before .is-letter .ensures) (c .if2 .left)
@@ -44,26 +44,26 @@ array-read-if3 : tie.Need-array-read-if3
 array-read-if3 c = letter-index _ _ (c .before .is-letter .ensures) (c .if2 .left)
 
 returns-3 : tie.Need-returns-3
-returns-3 c = ap (says (c .before .before .before .before .before .before .before .before .before)) (c .number3 .ensures) ∙ sym (standing-refused (st (c .before .before .before .before .before .before .before .before .before)) _ _ _ (fine (c .before .before .before .before)) (sym (c .before .before .before .is-letter .ensures) ∙ not-false _ (c .before .before .if2 .left)) (rw (eq-eqb _ 0 (c .before .if3 .taken))))
+returns-3 c = ap (says (c .before .before .before .before .before .before .before .before .before .before)) (c .number3 .ensures) ∙ sym (standing-refused (st (c .before .before .before .before .before .before .before .before .before .before)) _ _ _ (fine (c .before .before .before .before)) (sym (c .before .before .before .is-letter .ensures) ∙ not-false _ (c .before .before .if2 .left)) (rw (eq-eqb _ 0 (c .before .if3 .taken))))
 
 read-all-requires : tie.Need-read-all-requires
 read-all-requires c κs = record { counts = sound-counts _ (fine (c .before .before .before .before)); array = refl }
 
 returns-4 : tie.Need-returns-4
-returns-4 c = ap (says (c .before .before .before .before .before .before .before .before .before .before .before .before)) (c .number4 .ensures) ∙ sym (damaged-refused (st (c .before .before .before .before .before .before .before .before .before .before .before .before)) _ _ _ (fine (c .before .before .before .before .before .before .before)) (sym (c .before .before .before .before .before .before .is-letter .ensures) ∙ not-false _ (c .before .before .before .before .before .if2 .left)) (rw (ne-eqb _ 0 (c .before .before .before .before .if3 .left))) (sym (readable-tables _ _ _) ∙ sym (c .before .before .read-all .ensures .sound) ∙ not-true _ (c .before .if4 .taken)))
+returns-4 c = ap (says (c .before .before .before .before .before .before .before .before .before .before .before .before .before)) (c .number4 .ensures) ∙ sym (damaged-refused (st (c .before .before .before .before .before .before .before .before .before .before .before .before .before)) _ _ _ (fine (c .before .before .before .before .before .before .before)) (sym (c .before .before .before .before .before .before .is-letter .ensures) ∙ not-false _ (c .before .before .before .before .before .if2 .left)) (rw (ne-eqb _ 0 (c .before .before .before .before .if3 .left))) (sym (readable-tables _ _ _ _) ∙ sym (c .before .before .read-all .ensures .sound) ∙ not-true _ (c .before .if4 .taken)))
 
 array-write-start : tie.Need-array-write-start
 array-write-start c = letter-index _ _ (c .before .before .before .before .before .is-letter .ensures) (c .before .before .before .before .if2 .left)
 
 follow-requires : tie.Need-follow-requires
-follow-requires c κs = start-proper (letterIndex (c .before .before .before .before .before .before .before .before .before .before .before .before .args .letter)) (letter-index _ _ (c .before .before .before .before .before .before .is-letter .ensures) (c .before .before .before .before .before .if2 .left))
+follow-requires c κs = start-proper (letterIndex (c .before .before .before .before .before .before .before .before .before .before .before .before .before .args .letter)) (letter-index _ _ (c .before .before .before .before .before .before .is-letter .ensures) (c .before .before .before .before .before .if2 .left))
 
 returns-5 : tie.Need-returns-5
-returns-5 c = let m = followed (now (c .before .before .before .before .before .before .before .before .before .before .before .before .before .before .args .cells)) (now (c .before .before .before .before .before .before .before .before .before .before .before .before .before .before .args .used)) (now (c .before .before .before .before .before .before .before .before .before .before .before .before .before .before .args .vars)) _ _ _ (sound-counts _ (fine (c .before .before .before .before .before .before .before .before .before))) (letter-index _ _ (c .before .before .before .before .before .before .before .before .is-letter .ensures) (c .before .before .before .before .before .before .before .if2 .left))
+returns-5 c = let m = followed (now (c .before .before .before .before .before .before .before .before .before .before .before .before .before .before .before .args .cells)) (now (c .before .before .before .before .before .before .before .before .before .before .before .before .before .before .before .args .used)) (now (c .before .before .before .before .before .before .before .before .before .before .before .before .before .before .before .args .stewards)) (now (c .before .before .before .before .before .before .before .before .before .before .before .before .before .before .before .args .vars)) _ _ _ (sound-counts _ (fine (c .before .before .before .before .before .before .before .before .before))) (letter-index _ _ (c .before .before .before .before .before .before .before .before .is-letter .ensures) (c .before .before .before .before .before .before .before .if2 .left))
     (c .before .before .before .before .read-all .ensures .calls (not-false _ (c .before .before .before .if4 .left))) (c .before .follow .ensures) in
-    (λ i. reports 0 (m i) ((c .without-text .ensures ∙ ap (λ x. missingOf (now (c .before .before .before .before .before .before .before .before .before .before .before .before .before .before .args .used)) x) m) i))
-    ∙ sym (given (st (c .before .before .before .before .before .before .before .before .before .before .before .before .before .before)) _ _ _ (fine (c .before .before .before .before .before .before .before .before .before)) (sym (c .before .before .before .before .before .before .before .before .is-letter .ensures) ∙ not-false _ (c .before .before .before .before .before .before .before .if2 .left)) (rw (ne-eqb _ 0 (c .before .before .before .before .before .before .if3 .left)))
-    (sym (readable-tables _ _ _) ∙ sym (c .before .before .before .before .read-all .ensures .sound) ∙ not-false _ (c .before .before .before .if4 .left)))
+    (λ i. reports 0 (m i) ((c .without-text .ensures ∙ ap (λ x. missingOf (now (c .before .before .before .before .before .before .before .before .before .before .before .before .before .before .before .args .used)) x) m) i))
+    ∙ sym (given (st (c .before .before .before .before .before .before .before .before .before .before .before .before .before .before .before)) _ _ _ (fine (c .before .before .before .before .before .before .before .before .before)) (sym (c .before .before .before .before .before .before .before .before .is-letter .ensures) ∙ not-false _ (c .before .before .before .before .before .before .before .if2 .left)) (rw (ne-eqb _ 0 (c .before .before .before .before .before .before .if3 .left)))
+    (sym (readable-tables _ _ _ _) ∙ sym (c .before .before .before .before .read-all .ensures .sound) ∙ not-false _ (c .before .before .before .if4 .left)))
 
 pub reach-spec : {M : Type 1} → statement M
 reach-spec =

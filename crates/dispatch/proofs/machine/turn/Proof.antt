@@ -37,7 +37,7 @@ use Rattle.dispatch.proofs.machine.turn.Tie as tie
 module _ (c : tie.Start) where
   abbrev H : Held
   H =
-      held (c .args .m) (now (c .args .cells)) (now (c .args .used)) (now (c .args .inputs)) (now (c .args .frames)) (now (c .args .counts)) (now (c .args .vars))
+      held (c .args .m) (now (c .args .cells)) (now (c .args .used)) (now (c .args .marks)) (c .args .role) (now (c .args .inputs)) (now (c .args .frames)) (now (c .args .counts)) (now (c .args .vars))
       (now (c .args .list)) (now (c .args .output))
 
   -- the table
@@ -341,8 +341,8 @@ returns-23 c =
     record {
       turns =
           rw (
-            c .stop .ensures,
             rest-decoded (tab (s x)) (s x .args .m .at) (X x) (s x .pre .first) (x .before .before .if1 .left) (due x) (rw (back x) at (c .before .before .before .if2 .left)) o (c .before .before .match .rest),
+            c .stop .ensures,
           );
       size = s x .pre .size;
     }

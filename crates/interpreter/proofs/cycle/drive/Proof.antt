@@ -12,24 +12,24 @@ use Rattle.operands.specs.Held.{Held, held, stateOf, framesOf}
 use Rattle.operands.proofs.Held.{length-frames}
 use Rattle.interpreter.specs.Runs.{ran}
 use Rattle.interpreter.proofs.Loop.{after, runAt}
-use Rattle.interpreter.proofs.Runs.{Looping, Entering, Stretch, fit-of, leftOver, left-resumed, resuming, resume, falls, stretch-none, stretch-more, lent, driven}
+use Rattle.interpreter.proofs.Runs.{Looping, Entering, Stretch, fit-of, allowed-of, leftOver, left-resumed, resuming, resume, falls, stretch-none, stretch-more, lent, driven}
 use Rattle.interpreter.proofs.cycle.drive.Statement.{statement}
 use Rattle.interpreter.proofs.cycle.drive.Tie as tie
 
 abbrev Inv-loop : tie.InvT-loop
-Inv-loop cells used inputs letter allowance vars₀ list output₀ frames₀ counts₀ slots₀ m₀ vars output frames counts slots m =
-    Entering allowance output₀ (ran cells used letter allowance vars₀ inputs output₀) (held m cells used inputs frames counts vars slots output)
+Inv-loop cells used marks role inputs letter allowance vars₀ list output₀ frames₀ counts₀ slots₀ m₀ vars output frames counts slots m =
+    Entering allowance output₀ (ran cells used marks role letter allowance vars₀ inputs output₀) (held m cells used marks role inputs frames counts vars slots output)
 
 abbrev μ-loop : tie.MeasureT-loop
-μ-loop cells used inputs letter allowance vars₀ list output₀ frames₀ counts₀ slots₀ m₀ vars output frames counts slots m =
+μ-loop cells used marks role inputs letter allowance vars₀ list output₀ frames₀ counts₀ slots₀ m₀ vars output frames counts slots m =
     leftOver m
 
 abbrev Inv-loop2 : tie.InvT-loop2
-Inv-loop2 cells used inputs letter allowance vars₀ list output₀ frames₀ counts₀ slots₀ m₀ t vars output frames counts slots m =
-    Stretch (held m₀ cells used inputs frames₀ counts₀ vars₀ slots₀ output₀) t (held m cells used inputs frames counts vars slots output)
+Inv-loop2 cells used marks role inputs letter allowance vars₀ list output₀ frames₀ counts₀ slots₀ m₀ t vars output frames counts slots m =
+    Stretch (held m₀ cells used marks role inputs frames₀ counts₀ vars₀ slots₀ output₀) t (held m cells used marks role inputs frames counts vars slots output)
 
 abbrev μ-loop2 : tie.MeasureT-loop2
-μ-loop2 cells used inputs letter allowance vars₀ list output₀ frames₀ counts₀ slots₀ m₀ t vars output frames counts slots m =
+μ-loop2 cells used marks role inputs letter allowance vars₀ list output₀ frames₀ counts₀ slots₀ m₀ t vars output frames counts slots m =
     leftOver m
 
 -- what the function holds at the outer loop's head
@@ -38,12 +38,12 @@ module _ (c : tie.At-loop Inv-loop2 μ-loop2 Inv-loop μ-loop) where
   s = c .before .before
 
   abbrev H : Held
-  H = let l = c .loop in held (l .m) (now (s .args .cells)) (now (s .args .used)) (now (s .args .inputs)) (l .frames) (l .counts) (l .vars) (l .slots) (l .output)
+  H = let l = c .loop in held (l .m) (now (s .args .cells)) (now (s .args .used)) (now (s .args .marks)) (s .args .role) (now (s .args .inputs)) (l .frames) (l .counts) (l .vars) (l .slots) (l .output)
 
   -- the run that it makes
   abbrev run : Outcome
   run =
-      ran (now (s .args .cells)) (now (s .args .used)) (s .args .letter) (s .args .allowance) (now (s .args .vars)) (now (s .args .inputs))
+      ran (now (s .args .cells)) (now (s .args .used)) (now (s .args .marks)) (s .args .role) (s .args .letter) (s .args .allowance) (now (s .args .vars)) (now (s .args .inputs))
       (now (s .args .output))
 
 -- at the inner loop's
@@ -55,7 +55,7 @@ module _ (c : tie.At-loop2 Inv-loop2 μ-loop2 Inv-loop μ-loop) where
   H₂ =
       let a = s outer .args in
       let l = c .loop2 in
-      held (l .m) (now (a .cells)) (now (a .used)) (now (a .inputs)) (l .frames) (l .counts) (l .vars) (l .slots) (l .output)
+      held (l .m) (now (a .cells)) (now (a .used)) (now (a .marks)) (a .role) (now (a .inputs)) (l .frames) (l .counts) (l .vars) (l .slots) (l .output)
 
   looping : Looping (s outer .args .allowance) (now (s outer .args .output)) (run outer) H₂
   looping = c .loop2 .inv .keeps _ _ _ (resume _ _ _ (H outer) (outer .loop .inv .loop) (c .before .before .if1 .taken))
@@ -69,8 +69,8 @@ module _ (c : tie.After-obey Inv-loop2 μ-loop2 Inv-loop μ-loop) where
   H′ =
       let a = s (outer inner) .args in
       let t = c .obey in
-      held (t .result) (now (a .cells)) (now (a .used)) (now (a .inputs)) (t .last .1 .1 .1 .1 .1 .0) (t .last .1 .1 .1 .1 .1 .1 .0)
-      (t .last .1 .1 .1 .1 .1 .1 .1 .0) (t .last .1 .1 .1 .1 .1 .1 .1 .1 .0) (t .last .1 .1 .1 .1 .1 .1 .1 .1 .1 .0)
+      held (t .result) (now (a .cells)) (now (a .used)) (now (a .marks)) (a .role) (now (a .inputs)) (t .last .1 .1 .1 .1 .1 .1 .1 .0) (t .last .1 .1 .1 .1 .1 .1 .1 .1 .0)
+      (t .last .1 .1 .1 .1 .1 .1 .1 .1 .1 .0) (t .last .1 .1 .1 .1 .1 .1 .1 .1 .1 .1 .0) (t .last .1 .1 .1 .1 .1 .1 .1 .1 .1 .1 .1 .0)
 
 loop-holds : tie.Need-loop-holds Inv-loop2 μ-loop2 Inv-loop μ-loop
 unfolding execute after runAt framesOf start
@@ -89,6 +89,7 @@ loop-holds c =
                   lent = lent-start (now (a .output)) (now (a .vars)) (now (a .inputs));
                   spent = omega arith;
                 };
+            allowed = record { letter = c .before .pre .allowed; callers = tt };
             size = refl;
           };
       between = λ e. omega (arith, e);
@@ -128,6 +129,7 @@ obey-requires c κs =
             size = looping i .size;
           });
       pair = p;
+      allowed = allowed-of (a .args .allowance) (now (a .args .output)) (run (outer i)) (H₂ i) (looping i) (c .before .before .before .before .before .if2 .taken) .letter;
     }
 
 loop2-less : tie.Need-loop2-less Inv-loop2 μ-loop2 Inv-loop μ-loop
@@ -142,7 +144,7 @@ loop2-again c =
     let i = c .before .before .before .before .before .before .before .before .before .before in
     let a = s (outer i) in
     stretch-more (a .args .allowance) (now (a .args .output)) (run (outer i)) (resuming (H (outer i))) _ (H₂ i) (H′ (c .before .before)) (i .loop2 .inv) (looping i)
-    (c .before .before .before .before .before .before .before .before .if2 .taken) (c .before .before .obey .ensures .turns) (a .pre .letters) (a .pre .counted) refl refl (c .before .before .obey .ensures .size)
+    (c .before .before .before .before .before .before .before .before .if2 .taken) (c .before .before .obey .ensures .turns) (a .pre .letters) (a .pre .counted) refl refl refl refl (c .before .before .obey .ensures .size)
 
 -- the run is over
 module _ (c : tie.Else1 Inv-loop2 μ-loop2 Inv-loop μ-loop) where

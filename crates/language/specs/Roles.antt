@@ -1,0 +1,38 @@
+-- Document 02, U7: the marks of letters, the roles of callers, and which letters a caller may not run.
+use Prim.Native.Nat.{ℕ}
+use mathlib.Core.Bool.{Bool, _&&_, _||_}
+use mathlib.Core.List.{List}
+use lib.ListN.{getD}
+use lib.Dec.{eqb}
+
+-- "a mark, set by define: open (0) ..", `OPEN` of src/lib.rt
+abbrev pub openMark : ℕ
+openMark = 0
+
+-- ".. or steward (1)", `STEWARDS`
+abbrev pub stewardMark : ℕ
+stewardMark = 1
+
+-- "the caller's role, cashier (0) ..", `CASHIER`
+abbrev pub cashierRole : ℕ
+cashierRole = 0
+
+-- ".. or steward (1)", `STEWARD`
+abbrev pub stewardRole : ℕ
+stewardRole = 1
+
+-- the mark of letter a, a as 0, of a list of marks
+abbrev pub letterMark : List ℕ → ℕ → ℕ
+letterMark k a = getD k a openMark
+
+-- one of the two marks: "bad mark, a mark or role neither of the two"
+unfoldable pub isMark : ℕ → Bool
+isMark k = eqb k openMark || eqb k stewardMark
+
+-- one of the two roles
+unfoldable pub isRole : ℕ → Bool
+isRole r = eqb r cashierRole || eqb r stewardRole
+
+-- A letter with the mark k is not for a caller with the role r: "Some letters may be run only by a steward."
+unfoldable pub bars : ℕ → ℕ → Bool
+bars r k = eqb r cashierRole && eqb k stewardMark
