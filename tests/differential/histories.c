@@ -225,6 +225,7 @@ static bool same_again(const struct both *b, struct rec_store *other, const stru
     return good;
 }
 
+/* What the last call would have given with another role or allowance. */
 static uint32_t number_of(const struct both *b, const struct call *call)
 {
     static struct rec_store other;

@@ -1,6 +1,5 @@
 // The linker: from a source text to its code table, or to the number of its refusal.
 ghost use mathlib.Core.Path.{_≡_};
-ghost use Rattle.language.specs.Answers.{refusalNumber};
 ghost use Rattle.language.specs.Layout.{cleared};
 ghost use Rattle.language.specs.Reading.{read};
 ghost use Rattle.linker.specs.Linked.{linked};
@@ -19,12 +18,12 @@ pub struct Linked {
     pub table: Table,
 }
 
-// A refusal, with a cleared table.
-fn refused(why: Refusal) -> Linked
-    ensures { λ r. ⌜ r ≡ record { number = refusalNumber why; table = cleared } ⌝ }
+// The number of a refusal, with a cleared table.
+fn refused(number: u32) -> Linked
+    ensures { λ r. ⌜ r ≡ record { number = number; table = cleared } ⌝ }
 {
     Linked {
-        number: why.number(),
+        number,
         table: Table::fresh(),
     }
 }
@@ -34,17 +33,17 @@ pub fn link(text: &[u8]) -> Linked
     ensures { λ r. ⌜ r ≡ linked (read (now (text .entry))) ⌝ }
 {
     if TEXT < text.len() {
-        return refused(Refusal::LongText);
+        return refused(Refusal::LongText.number());
     }
     let before = skip(text, 0);
     let Skipped::To(at) = before else {
-        return refused(skip_refusal(before));
+        return refused(skip_refusal(before).number());
     };
     if text.len() <= at {
-        return refused(Refusal::Unfinished);
+        return refused(Refusal::Unfinished.number());
     }
     if text[at] != b'(' {
-        return refused(Refusal::StrayMark);
+        return refused(Refusal::StrayMark.number());
     }
     let mut cells = [0i32; Table::CELLS];
     let mut kinds = [0u8; Table::CELLS];
@@ -52,17 +51,14 @@ pub fn link(text: &[u8]) -> Linked
     let s = scan(text, at + 1, &mut cells, &mut kinds, &mut levels);
     let p = s.pass;
     if p.fault != 0 {
-        return Linked {
-            number: p.fault,
-            table: Table::fresh(),
-        };
+        return refused(p.fault);
     }
     let after = skip(text, s.next);
     let Skipped::To(end) = after else {
-        return refused(skip_refusal(after));
+        return refused(skip_refusal(after).number());
     };
     if end < text.len() {
-        return refused(Refusal::StrayMark);
+        return refused(Refusal::StrayMark.number());
     }
     fill(p.used, &mut cells, &kinds, &levels);
     Linked {
