@@ -16,7 +16,7 @@ use Rattle.lexer.specs.Lexing.{Means}
 use Rattle.emitter.specs.Drafts.{levelPlaces, Draft, draft, Inside}
 use Rattle.assembler.specs.Taking.{taken, Fine}
 use Rattle.assembler.specs.Scanning.{parsedFrom, Scans, stops, ends}
-use Rattle.language.proofs.Answers.{refusal-not-zero}
+use Rattle.language.proofs.Answers.{fault-not-zero}
 use Rattle.assembler.proofs.ScanningCells.{headCell}
 use Rattle.assembler.proofs.ScanningSimulation as Simulation
 use Rattle.assembler.proofs.ScanningSimulation.{Image, Outcome, goes, closes-all, one-token}
@@ -56,7 +56,7 @@ starts-out s from = goes (λ e. e) [] codeStart 0 refl start-image
 
 pub bounds : (P : Reading) (l : List Token) (p : Pass) (c : List ℤ) (k v : List ℕ) (f : List ℤ) → Outcome P l (draft p c k v f) → p .fault ≡ 0
     → (p .level ≡ 0 → ⊥) → Inside p
-bounds P l p c k v f (Simulation.stops why q i) e n = absurd (refusal-not-zero why (sym i ∙ e))
+bounds P l p c k v f (Simulation.stops why q i) e n = absurd (fault-not-zero why (sym i ∙ e))
 bounds P l p c k v f (goes g st q i r im) e n =
     record {
       cells-fit = omega (arith, im .cells-are .used-is, im .cells-are .room);
@@ -67,7 +67,7 @@ bounds P l p c k v f (closes-all w q i z r) e n = absurd (n z)
 
 pub next-outcome : (s : List ℕ) (l l′ : List Token) (t : Lexer.Token) (P : Reading) (d : Draft) → Outcome P l d → d .fault ≡ 0 → (d .level ≡ 0 → ⊥) → Means s t l l′
     → Outcome P l′ (taken s t d)
-next-outcome s l l′ t P d (Simulation.stops why p k) e n m = absurd (refusal-not-zero why (sym k ∙ e))
+next-outcome s l l′ t P d (Simulation.stops why p k) e n m = absurd (fault-not-zero why (sym k ∙ e))
 next-outcome s l l′ t P d (goes f st q c p im) e n m = subst (λ P. Outcome P l′ (taken s t d)) (sym p) (one-token s l′ d f st q c im t l m)
 next-outcome s l l′ t P d (closes-all w p k v r) e n m = absurd (n v)
 
@@ -102,6 +102,6 @@ module _ (s : List ℕ) (from next : ℕ) (p : Pass) (C : List ℤ) (K L : List 
 
   pub scans-whole : Outcome (parsedFrom s from) (tokens (drop next s) idle) (draft p C K L S) → p .fault ≡ 0 → p .level ≡ 0
       → Scans s from (record { pass = p; next = next }) C K L
-  scans-whole (Simulation.stops why q k) e v = absurd (refusal-not-zero why (sym k ∙ e))
+  scans-whole (Simulation.stops why q k) e v = absurd (fault-not-zero why (sym k ∙ e))
   scans-whole (goes f st x c q im) e v = absurd (omega (arith, im .level-is))
   scans-whole (closes-all w q k z r) e v = ends w q k r

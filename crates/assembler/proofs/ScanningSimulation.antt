@@ -11,9 +11,9 @@ use lib.Seq.{getD-set-same, getD-set-other}
 use lib.Dec.{leb}
 use borrow.Author.Tests.{leb-true, leb-false, le-leb, lt-leb, lt-ltb, le-ltb}
 use Rattle.language.specs.Limits.{maxCells, maxLevels, maxCounters}
-use Rattle.language.specs.Answers.{refusalNumber}
-use Rattle.language.specs.declared.Refusal.{Refusal}
-use Rattle.language.specs.declared.Refusal.the-variants.{Deep, Unfinished, TableFull, ManyCounters}
+use Rattle.language.specs.Answers.{faultNumber}
+use Rattle.language.specs.declared.Fault.{Fault}
+use Rattle.language.specs.declared.Fault.the-variants.{Deep, Unfinished, TableFull, ManyCounters}
 use Rattle.language.specs.Syntax.{Operation, operator, variable, constant, print}
 use Rattle.language.specs.Syntax.{condition, counter, Expr, close, semi, colon, operate, test, call, inner}
 use Rattle.language.specs.Tokens.{Token, opens, closes, semis, colons, begins, does, asks, counts, calls}
@@ -63,7 +63,7 @@ pub record Image (d : Draft) (f : Expr → Expr) (st : List (Expr → Expr)) (q 
 
 -- After a token: the text is refused, or the parser goes on over l inside the expression, or after it.
 pub data Outcome (P : Reading) (l : List Token) (d : Draft) : Type 0 where
-  stops : (why : Refusal) → P ≡ refused why → d .fault ≡ refusalNumber why → Outcome P l d
+  stops : (why : Fault) → P ≡ refused why → d .fault ≡ faultNumber why → Outcome P l d
   goes : (f : Expr → Expr) (st : List (Expr → Expr)) (q c : ℕ) → P ≡ parse l (inside f st q c) → Image d f st q c → Outcome P l d
   closes-all : (w : Expr) → P ≡ parse l (whole w) → d .fault ≡ 0 → d .level ≡ 0 → Ready w (d .used) (d .cells) (d .kinds) (d .levels) → Outcome P l d
 

@@ -5,8 +5,8 @@ use Prim.Native.Nat.{ℕ, _≤_}
 use lib.IntN.{ℤ, pos}
 use lib.ListN.{length, getD, drop, replicate}
 use Rattle.language.specs.Limits.{maxText, maxLevels, maxCells}
-use Rattle.language.specs.Answers.{refusalNumber}
-use Rattle.language.specs.declared.Refusal.{Refusal}
+use Rattle.language.specs.Answers.{faultNumber}
+use Rattle.language.specs.declared.Fault.{Fault}
 use Rattle.language.specs.Syntax.{Expr}
 use Rattle.language.specs.Tokens.{idle, tokens}
 use Rattle.language.specs.Layout.{usedCells, codeStart, layout}
@@ -34,6 +34,6 @@ parsedFrom s i = parse (tokens (drop i s) idle) (inside (λ e. e) [] codeStart 0
 
 -- the text is refused, or the outermost expression is whole and the parser goes on after it
 pub data Scans (s : List ℕ) (from : ℕ) (r : Scanned) (cells : List ℤ) (kinds levels : List ℕ) : Type 0 where
-  stops : (why : Refusal) → parsedFrom s from ≡ refused why → r .pass .fault ≡ refusalNumber why → Scans s from r cells kinds levels
+  stops : (why : Fault) → parsedFrom s from ≡ refused why → r .pass .fault ≡ faultNumber why → Scans s from r cells kinds levels
   ends : (w : Expr) → parsedFrom s from ≡ parse (tokens (drop (r .next) s) idle) (whole w) → r .pass .fault ≡ 0
       → Ready w (r .pass .used) cells kinds levels → Scans s from r cells kinds levels

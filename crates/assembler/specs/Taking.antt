@@ -6,7 +6,7 @@ use lib.ListN.{length, take, drop}
 use Rattle.language.specs.Limits.{maxText, maxLimit}
 use Rattle.language.specs.Syntax.{constantCode}
 use Rattle.language.specs.Layout.{opcode}
-use Rattle.language.specs.declared.Refusal.the-variants.{Unfinished}
+use Rattle.language.specs.declared.Fault.the-variants.{Unfinished}
 use Rattle.lexer.specs.declared.Token as Lexer
 use Rattle.lexer.specs.declared.Token.the-variants as T
 use Rattle.emitter.specs.declared.pass.Pass.{Pass}

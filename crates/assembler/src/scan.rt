@@ -6,7 +6,7 @@ ghost use Rattle.assembler.specs.Scanning.{Blank, Scans};
 use emitter::pass::LEVEL_PLACES;
 use emitter::pass::Pass;
 use language::CONSTANT_CODE;
-use language::Refusal;
+use language::Fault;
 use language::Table;
 use lexer::Token;
 use lexer::next_token;
@@ -27,7 +27,7 @@ fn take(
 {
     match t {
         Token::Blank => p,
-        Token::End => p.refuse(Refusal::Unfinished),
+        Token::End => p.refuse(Fault::Unfinished),
         Token::Fault(r) => p.refuse(r),
         Token::Open => p.open(starts),
         Token::Close => p.close(cells, kinds, levels),

@@ -5,8 +5,8 @@ use Rattle.language.specs.Effects.{perform, ask}
 use Rattle.language.specs.Machine.{decode}
 use Rattle.book.specs.Book.{freshBook, bookCall}
 use Rattle.book.specs.Store.{freshStore, storeCall}
-use Rattle.book.specs.History.{answers, after}
-use Rattle.book.specs.Examples.{Hold, HoldLent, HoldKept, HoldFound, sessions, roles, lendings, keepings, damaged, spoilt}
+use Rattle.book.specs.Sessions.{answers, after}
+use Rattle.book.specs.Examples.{Hold, HoldLent, HoldKept, HoldFound, sessions, roles, lendings, keepings, damaged, spoilt, NumbersHold}
 
 pub sessions-hold : Hold sessions
 unfolding freshBook freshStore answers bookCall storeCall isValue perform ask decode
@@ -31,3 +31,6 @@ damaged-hold = refl
 pub spoilt-hold : HoldFound spoilt
 unfolding storeCall isValue perform ask decode
 spoilt-hold = refl
+
+pub numbers-hold : NumbersHold
+numbers-hold = refl

@@ -1,6 +1,6 @@
-pub mod Before
 pub mod Examples
-pub mod History
-pub mod HistoryStanding
 pub mod Refusals
 pub mod Store
+pub mod Sessions
+pub mod History
+pub mod Demand3

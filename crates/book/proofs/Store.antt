@@ -11,21 +11,20 @@ use lib.Seq.{paste, take-append-le, drop-append-le, drop-drop, length-paste, len
 use lib.Dec.{ltb}
 use borrow.Author.Tests.{ltb-true, ltb-false}
 use Rattle.language.specs.declared.Table.{Table}
-use Rattle.language.specs.declared.Refusal.{Refusal}
-use Rattle.language.specs.Answers.{refusalNumber, isRefusal}
 use Rattle.language.specs.Limits.{maxCells, maxLetters, storeCells}
 use Rattle.language.specs.Meaning.{Outcome, ended, stopped}
 use Rattle.language.specs.Letters.{letterIndex}
 use Rattle.language.specs.Effects.{start}
-use Rattle.language.specs.Roles.{openMark, letterMark}
-use Rattle.language.specs.Tables.{tableAt, standsAt, execute, soundUsed, soundMarks}
+use Rattle.language.specs.Roles.{openPermission, permissionAt}
+use Rattle.language.specs.Tables.{tableAt, standsAt, execute, soundUsed, soundPermissions}
 use Rattle.language.specs.Values.{lawful}
-use Rattle.language.proofs.Answers.{ending-no-refusal}
 use Rattle.book.specs.Calls.{Call, defines, withdraws, runs, lentList, lentOutput}
 use Rattle.book.specs.Replies.{leaves, plain, reported, tells}
-use Rattle.book.specs.Refusals.{refusal, answer}
-use Rattle.book.specs.Store.{Store, withEntry, soundStore, storeRan, storeAccepts, storeCall, told}
+use Rattle.book.specs.declared.Refusal.{Refusal}
+use Rattle.book.specs.Refusals.{refusalNumber, isRefusal, first, zeroOr, refusedBy, tests, refusal, answer}
+use Rattle.book.specs.Store.{Store, withEntry, soundStore, storeRan, storeAccepts, storeView, storeCall, changed}
 use Rattle.book.specs.Statements.{RefusalKeeps, EntrySame, EntryOther, EntryCommute}
+use Rattle.book.proofs.Refusals.{ending-no-refusal, none-fits}
 
 -- ── a part of a list that is pasted over ────────────────────────────────────────────────────────
 
@@ -89,14 +88,14 @@ table-other c u a b t hc lt ht ne =
 pub entry-same : EntrySame
 unfolding withEntry
 entry-same st a e sp lt full =
-    let m = getD-set-same (st .marks) a (e .mark) openMark (omega (arith, sp .marks)) in
-    λ i. record { table = table-same (st .cells) (st .used) a (e .table) (sp .cells) (sp .used) lt full i; mark = m i }
+    let m = getD-set-same (st .permissions) a (e .permission) openPermission (omega (arith, sp .permissions)) in
+    λ i. record { table = table-same (st .cells) (st .used) a (e .table) (sp .cells) (sp .used) lt full i; permission = m i }
 
 pub entry-other : EntryOther
 unfolding withEntry
 entry-other st a b e sp lt full ne =
-    let m = getD-set-other (st .marks) a b (e .mark) openMark ne in
-    λ i. record { table = table-other (st .cells) (st .used) a b (e .table) (sp .cells) lt full ne i; mark = m i }
+    let m = getD-set-other (st .permissions) a b (e .permission) openPermission ne in
+    λ i. record { table = table-other (st .cells) (st .used) a b (e .table) (sp .cells) lt full ne i; permission = m i }
 
 -- ── two entries ─────────────────────────────────────────────────────────────────────────────────
 
@@ -160,8 +159,8 @@ entry-commute st a b e f sp la lb he hf ne =
     let cs : paste (paste (st .cells) (a * maxCells) (e .table .cells) maxCells) (b * maxCells) (f .table .cells) maxCells
     ≡ paste (paste (st .cells) (b * maxCells) (f .table .cells) maxCells) (a * maxCells) (e .table .cells) maxCells = go (ltb a b) refl in
     let us = set-comm (st .used) a b (e .table .used) (f .table .used) (λ q. ne (sym q)) in
-    let ms = set-comm (st .marks) a b (e .mark) (f .mark) (λ q. ne (sym q)) in
-    λ i. record { cells = cs i; used = us i; marks = ms i; variables = st .variables }
+    let ms = set-comm (st .permissions) a b (e .permission) (f .permission) (λ q. ne (sym q)) in
+    λ i. record { cells = cs i; used = us i; permissions = ms i; variables = st .variables }
   where
     go : (v : Bool) → ltb a b ≡ v
         → paste (paste (st .cells) (a * maxCells) (e .table .cells) maxCells) (b * maxCells) (f .table .cells) maxCells
@@ -188,11 +187,11 @@ accepts-accepts st (withdraws l) = refl
 accepts-accepts st (runs x) =
     unfold storeRan in
     reported-accepts (st .variables) (x .allowance)
-    (execute (st .cells) (st .used) (st .marks) (x .role) (letterIndex (x .letter)) (x .allowance) (start (st .variables) (x .inputs) (x .output)))
+    (execute (st .cells) (st .used) (st .permissions) (x .role) (letterIndex (x .letter)) (x .allowance) (start (st .variables) (x .inputs) (x .output)))
 
 pub refusal-keeps : RefusalKeeps
 unfolding storeCall
-refusal-keeps st c h = go (refusal (soundStore st) (standsAt (st .used)) (letterMark (st .marks)) c) h
+refusal-keeps st c h = go (refusal (storeView st) c) h
   where
     go : (o : Option Refusal) → isRefusal (answer o st (st .variables) c (storeAccepts st c) .reply .report .number) ≡ true
         → answer o st (st .variables) c (storeAccepts st c)
@@ -206,20 +205,19 @@ refusal-keeps st c h = go (refusal (soundStore st) (standsAt (st .used)) (letter
     go none k = unfold answer in absurd (false≢true (sym (accepts-accepts st c) ∙ k))
     go (some r) k = unfold answer tells in refl
 
--- ── a call by its refusal ───────────────────────────────────────────────────────────────────────
+-- ── a call by its tests ─────────────────────────────────────────────────────────────────────────
 
--- whether a store is sound, by its three tests
-pub sound-by : (st : Store) (s u : Bool) → s ≡ soundUsed (st .used) && soundMarks (st .marks) && lawful (st .variables) → s ≡ u → soundStore st ≡ u
-unfolding soundStore
-sound-by st s u e f = sym e ∙ f
+-- a call whose tests come to a number other than 0 answers it and leaves the store
+pub call-refused : (st : Store) (c : Call) (n : ℕ) → n ≡ refusedBy (tests (storeView st) c) → (n ≡ 0 → ⊥)
+    → leaves st (tells n c (st .variables)) ≡ storeCall st c
+unfolding storeCall refusal
+call-refused st c n e h = go (first (tests (storeView st) c)) e
+  where
+    go : (o : Option Refusal) → n ≡ zeroOr o → leaves st (tells n c (st .variables)) ≡ answer o st (st .variables) c (storeAccepts st c)
+    go none q = absurd (h q)
+    go (some r) q = unfold answer in ap (λ m. leaves st (tells m c (st .variables))) q
 
--- a call that a refusal fits tells its number and leaves the store
-pub call-refused : (st : Store) (c : Call) (r : Refusal) (n : ℕ) → n ≡ refusalNumber r → refusal (soundStore st) (standsAt (st .used)) (letterMark (st .marks)) c ≡ some r
-    → told st n c ≡ storeCall st c
-unfolding storeCall answer
-call-refused st c r n h e = rw (h, e)
-
--- any other is accepted
-pub call-accepted : (st : Store) (c : Call) → refusal (soundStore st) (standsAt (st .used)) (letterMark (st .marks)) c ≡ none → storeAccepts st c ≡ storeCall st c
-unfolding storeCall answer
+-- a call that no refusal fits is accepted
+pub call-accepted : (st : Store) (c : Call) → first (tests (storeView st) c) ≡ none → storeAccepts st c ≡ storeCall st c
+unfolding storeCall refusal answer
 call-accepted st c e = rw e

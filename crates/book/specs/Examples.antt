@@ -8,13 +8,14 @@ use mathlib.Core.Bool.{true, false}
 use mathlib.Core.List.{List, [], _∷_, _++_, map}
 use lib.IntN.{ℤ, pos}
 use lib.ListN.{length, take, replicate}
-use Rattle.language.specs.Roles.{letterMark}
+use Rattle.language.specs.Roles.{permissionAt}
 use Rattle.language.specs.Trials.{bytes, times, neg, zeros, fresh, Result, simply, ends, halts, took, keeps, wrote}
 use Rattle.book.specs.Calls.{Call, defines, withdraws, running}
 use Rattle.book.specs.Replies.{Reply}
 use Rattle.book.specs.Book.{freshBook, bookCall}
 use Rattle.book.specs.Store.{Store, storeOf, freshStore, entryAt, storeCall}
-use Rattle.book.specs.History.{after, storeAnswers, storeAfter, bookAnswers}
+use Rattle.book.specs.Refusals.{isRefusal}
+use Rattle.book.specs.Sessions.{answers, after}
 
 -- ── calls ───────────────────────────────────────────────────────────────────────────────────────
 
@@ -88,7 +89,7 @@ pub record Session : Type 0 where
 
 -- what the book and the store give
 abbrev pub given : Session → List Result × List Result
-given x = (map resultOf (bookAnswers freshBook (x .calls)), map resultOf (storeAnswers freshStore (x .calls)))
+given x = (map resultOf (answers bookCall freshBook (x .calls)), map resultOf (answers storeCall freshStore (x .calls)))
 
 -- what they should give
 abbrev pub due : Session → List Result × List Result
@@ -227,7 +228,7 @@ leftIn r = (r .list, r .output)
 
 -- what book and store leave
 abbrev pub leaving : Lending → List (List ℤ × List ℕ) × List (List ℤ × List ℕ)
-leaving x = (map leftIn (bookAnswers freshBook (x .calls)), map leftIn (storeAnswers freshStore (x .calls)))
+leaving x = (map leftIn (answers bookCall freshBook (x .calls)), map leftIn (answers storeCall freshStore (x .calls)))
 
 -- what they should leave
 abbrev pub dueLeft : Lending → List (List ℤ × List ℕ) × List (List ℤ × List ℕ)
@@ -263,24 +264,24 @@ lendings =
 pub record Keeping : Type 0 where
   pub calls : List Call
   pub letter : ℕ
-  pub mark : ℕ
+  pub permission : ℕ
   pub cells : List ℤ
 
 -- how many cells, counts, marks and variables a store has
 abbrev pub sizes : Store → List ℕ
-sizes st = length (st .cells) ∷ length (st .used) ∷ length (st .marks) ∷ length (st .variables) ∷ []
+sizes st = length (st .cells) ∷ length (st .used) ∷ length (st .permissions) ∷ length (st .variables) ∷ []
 
 -- what the store keeps of a letter: its count, its mark and its cells
 abbrev pub keptIn : Store → ℕ → List ℕ × ℕ × ℕ × List ℤ
-keptIn st a = (sizes st, entryAt st a .table .used, entryAt st a .mark, entryAt st a .table .cells)
+keptIn st a = (sizes st, entryAt st a .table .used, entryAt st a .permission, entryAt st a .table .cells)
 
 -- what calls leave in the store, and which mark in the book
 abbrev pub kept : Keeping → (List ℕ × ℕ × ℕ × List ℤ) × ℕ
-kept x = (keptIn (storeAfter freshStore (x .calls)) (x .letter), letterMark (after bookCall freshBook (x .calls) .marks) (x .letter))
+kept x = (keptIn (after storeCall freshStore (x .calls)) (x .letter), permissionAt (after bookCall freshBook (x .calls) .permissions) (x .letter))
 
 -- what they should leave: "26 letters' tables with their used-cell counts, and ten variables", each table of 250 cells, and 26 marks
 abbrev pub dueKept : Keeping → (List ℕ × ℕ × ℕ × List ℤ) × ℕ
-dueKept x = ((6500 ∷ 26 ∷ 26 ∷ 10 ∷ [], length (x .cells), x .mark, x .cells ++ zeros (250 - length (x .cells))), x .mark)
+dueKept x = ((6500 ∷ 26 ∷ 26 ∷ 10 ∷ [], length (x .cells), x .permission, x .cells ++ zeros (250 - length (x .cells))), x .permission)
 
 -- every list of calls leaves what it should
 abbrev pub HoldKept : List Keeping → Type 0
@@ -290,16 +291,16 @@ HoldKept xs = map kept xs ≡ map dueKept xs
 -- by define", "a fresh store's marks are open", "Withdraw clears the mark to open."
 abbrev pub keepings : List Keeping
 keepings =
-    record { calls = []; letter = 25; mark = 0; cells = [] }
-    ∷ record { calls = D "z" "(A;)" ∷ D "z" "(;)" ∷ R "z" 9 [] ∷ []; letter = 25; mark = 0; cells = pos 2000 ∷ pos 4 ∷ pos 0 ∷ pos 1 ∷ [] }
-    ∷ record { calls = D "z" "(;)" ∷ D "y" "()" ∷ D "z" "(" ∷ []; letter = 24; mark = 0; cells = pos 2000 ∷ pos 0 ∷ pos 1 ∷ [] }
-    ∷ record { calls = D "a" "(;)" ∷ X "a" ∷ []; letter = 0; mark = 0; cells = [] }
-    ∷ record { calls = G "z" "()" ∷ []; letter = 25; mark = 1; cells = pos 2000 ∷ pos 0 ∷ pos 1 ∷ [] }
-    ∷ record { calls = G "a" "()" ∷ D "b" "(;)" ∷ X "b" ∷ R "a" 9 [] ∷ B "a" 9 [] ∷ D "a" "(" ∷ []; letter = 0; mark = 1; cells = pos 2000 ∷ pos 0 ∷ pos 1 ∷ [] }
-    ∷ record { calls = G "a" "(;)" ∷ D "a" "()" ∷ G "b" "()" ∷ []; letter = 0; mark = 0; cells = pos 2000 ∷ pos 0 ∷ pos 1 ∷ [] }
-    ∷ record { calls = D "a" "(;)" ∷ G "a" "()" ∷ D "b" "()" ∷ []; letter = 0; mark = 1; cells = pos 2000 ∷ pos 0 ∷ pos 1 ∷ [] }
-    ∷ record { calls = G "a" "(;)" ∷ X "a" ∷ []; letter = 0; mark = 0; cells = [] }
-    ∷ record { calls = G "a" "(;)" ∷ G "b" "(;)" ∷ X "a" ∷ []; letter = 1; mark = 1; cells = pos 2000 ∷ pos 4 ∷ pos 0 ∷ pos 1 ∷ [] }
+    record { calls = []; letter = 25; permission = 0; cells = [] }
+    ∷ record { calls = D "z" "(A;)" ∷ D "z" "(;)" ∷ R "z" 9 [] ∷ []; letter = 25; permission = 0; cells = pos 2000 ∷ pos 4 ∷ pos 0 ∷ pos 1 ∷ [] }
+    ∷ record { calls = D "z" "(;)" ∷ D "y" "()" ∷ D "z" "(" ∷ []; letter = 24; permission = 0; cells = pos 2000 ∷ pos 0 ∷ pos 1 ∷ [] }
+    ∷ record { calls = D "a" "(;)" ∷ X "a" ∷ []; letter = 0; permission = 0; cells = [] }
+    ∷ record { calls = G "z" "()" ∷ []; letter = 25; permission = 1; cells = pos 2000 ∷ pos 0 ∷ pos 1 ∷ [] }
+    ∷ record { calls = G "a" "()" ∷ D "b" "(;)" ∷ X "b" ∷ R "a" 9 [] ∷ B "a" 9 [] ∷ D "a" "(" ∷ []; letter = 0; permission = 1; cells = pos 2000 ∷ pos 0 ∷ pos 1 ∷ [] }
+    ∷ record { calls = G "a" "(;)" ∷ D "a" "()" ∷ G "b" "()" ∷ []; letter = 0; permission = 0; cells = pos 2000 ∷ pos 0 ∷ pos 1 ∷ [] }
+    ∷ record { calls = D "a" "(;)" ∷ G "a" "()" ∷ D "b" "()" ∷ []; letter = 0; permission = 1; cells = pos 2000 ∷ pos 0 ∷ pos 1 ∷ [] }
+    ∷ record { calls = G "a" "(;)" ∷ X "a" ∷ []; letter = 0; permission = 0; cells = [] }
+    ∷ record { calls = G "a" "(;)" ∷ G "b" "(;)" ∷ X "a" ∷ []; letter = 1; permission = 1; cells = pos 2000 ∷ pos 4 ∷ pos 0 ∷ pos 1 ∷ [] }
     ∷ []
 
 -- ── damaged stores ──────────────────────────────────────────────────────────────────────────────
@@ -527,3 +528,13 @@ spoilt =
     ++ bad (marking 0 2)
     ++ bad (marking 255 1)
     ++ bad (marking 1 256)
+
+-- ── numbers ─────────────────────────────────────────────────────────────────────────────────────
+
+-- which of these numbers refuse: "Finished is 0. Numbers 1 to 14 refuse; 20 to 29 end a run."; document 02, U7: 33 and 35 refuse; 34 is "an ending"
+abbrev pub numbers : List ℕ
+numbers = 0 ∷ 1 ∷ 14 ∷ 15 ∷ 20 ∷ 29 ∷ 32 ∷ 33 ∷ 34 ∷ 35 ∷ 36 ∷ []
+
+-- proofs/Examples `numbers-hold`
+abbrev pub NumbersHold : Type 0
+NumbersHold = map isRefusal numbers ≡ false ∷ true ∷ true ∷ false ∷ false ∷ false ∷ false ∷ true ∷ false ∷ true ∷ false ∷ []

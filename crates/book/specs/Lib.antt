@@ -2,8 +2,10 @@ pub mod Calls
 pub mod Replies
 pub mod Refusals
 pub mod Book
-pub mod Before
 pub mod Store
+pub mod Events
+pub mod Sessions
 pub mod History
+pub mod Demand3
 pub mod Examples
 pub mod Statements

@@ -9,16 +9,13 @@ use lib.IntN.{ℤ, pos}
 use lib.ListN.{length, take, replicate, length-take, length-replicate, length-append}
 use lib.Seq.{paste, length-take-le}
 use borrow.Author.Tests.{le-leb, lt-leb}
-use Rattle.language.specs.declared.Refusal.{Refusal}
-use Rattle.language.specs.declared.Refusal.the-variants.{BadLine}
-use Rattle.language.specs.Answers.{refusalNumber}
 use Rattle.language.specs.Bytes.{newlineByte}
 use Rattle.language.specs.Limits.{maxHeight}
-use Rattle.language.specs.Roles.{openMark, cashierRole, letterMark}
+use Rattle.language.specs.Roles.{openPermission, cashierRole}
 use Rattle.language.specs.Letters.{letterIndex}
 use Rattle.language.specs.Effects.{start}
 use Rattle.language.specs.Meaning.{Outcome, ended, stopped}
-use Rattle.language.specs.Tables.{standsAt, execute}
+use Rattle.language.specs.Tables.{execute}
 use Rattle.language.specs.Statements.{Lent, finalState}
 use Rattle.language.proofs.EffectsLent.{lent-parts}
 use Rattle.numerals.specs.Numerals.{Written, wrote, written}
@@ -26,9 +23,10 @@ use Rattle.numerals.proofs.Numerals.{written-room, written-two}
 use Rattle.book.specs.declared.Report.{Report}
 use Rattle.book.specs.Calls.{Run, Call, defines, withdraws, runs, running}
 use Rattle.book.specs.Replies.{Reply, Answered, reported, tells}
+use Rattle.book.specs.declared.Refusal.{Refusal}
 use Rattle.book.specs.Refusals.{refusal, answer}
-use Rattle.book.specs.Store.{Store, soundStore, storeRan, storeAccepts, storeCall, told, answered}
-use Rattle.lines.specs.Lines.{Request, define, withdraw, run, bad, request}
+use Rattle.book.specs.Store.{Store, storeRan, storeAccepts, storeView, storeCall, changed, answered}
+use Rattle.lines.specs.Lines.{badLine, Request, define, withdraw, run, bad, request}
 use Rattle.figures.specs.declared.Figures.{Figures}
 use Rattle.figures.specs.Printed as Printed
 use Rattle.figures.specs.Printed.{figures, mostBytes, paper, top}
@@ -50,14 +48,14 @@ reported-bounded o v n (stopped e s r) h = record { height = h .height; written 
 -- of a run of any store
 pub run-bounded : (st : Store) (x : Run) → Bounded (length (x .output)) (storeCall st (runs x) .reply)
 unfolding storeCall
-run-bounded st x = go (refusal (soundStore st) (standsAt (st .used)) (letterMark (st .marks)) (runs x))
+run-bounded st x = go (refusal (storeView st) (runs x))
   where
     go : (o : Option Refusal) → Bounded (length (x .output)) (answer o st (st .variables) (runs x) (storeAccepts st (runs x)) .reply)
     go none =
         unfold answer storeAccepts storeRan in
         reported-bounded (x .output) (st .variables) (x .allowance)
-        (execute (st .cells) (st .used) (st .marks) (x .role) (letterIndex (x .letter)) (x .allowance) (start (st .variables) (x .inputs) (x .output)))
-        (lent-parts (st .cells) (st .used) (st .marks) (x .role) (letterIndex (x .letter)) (x .allowance) (st .variables) (x .inputs) (x .output))
+        (execute (st .cells) (st .used) (st .permissions) (x .role) (letterIndex (x .letter)) (x .allowance) (start (st .variables) (x .inputs) (x .output)))
+        (lent-parts (st .cells) (st .used) (st .permissions) (x .role) (letterIndex (x .letter)) (x .allowance) (st .variables) (x .inputs) (x .output))
     go (some r) = unfold answer tells in record { height = omega arith; written = omega arith }
 
 -- ── what is printed ─────────────────────────────────────────────────────────────────────────────
@@ -69,7 +67,7 @@ paper-most [] = omega arith
 paper-most (b ∷ o) = omega (arith, length-append (b ∷ o) (newlineByte ∷ []))
 
 -- a define or a withdraw c, which left the store st′ and answered n
-pub told-printed : (st st′ : Store) (k n : ℕ) (c : Call) (o o′ : List ℕ) (r : ℕ) → told st′ n c ≡ storeCall st c
+pub told-printed : (st st′ : Store) (k n : ℕ) (c : Call) (o o′ : List ℕ) (r : ℕ) → changed st′ n c ≡ storeCall st c
     → wrote r o′ ≡ written o 0 (figures (Printed.told k n))
     → performs st′ r o′ ≡ printed o (serves (storeCall st c .kept) (figures (Printed.told k (storeCall st c .reply .report .number))))
 unfolding tells
@@ -118,7 +116,7 @@ two-most a b m n h g = simp length-append (omega arith)
 -- what a request prints has room
 granted-most : (st : Store) (k : ℕ) (q : Request) → length (granted storeCall st k q .bytes) ≤ paperBytes
 unfolding granted shown
-granted-most st k (define l t) = omega (arith, figures-most (Printed.told k (storeCall st (defines l openMark t) .reply .report .number)))
+granted-most st k (define l t) = omega (arith, figures-most (Printed.told k (storeCall st (defines l openPermission t) .reply .report .number)))
 granted-most st k (withdraw l) = omega (arith, figures-most (Printed.told k (storeCall st (withdraws l) .reply .report .number)))
 granted-most st k (run l n i) =
     let lent : List ℕ = replicate outputBytes 0 in
@@ -130,7 +128,7 @@ granted-most st k (run l n i) =
     in
     let most : length (paper shows) ≤ outputBytes + 1 = omega (arith, paper-most shows, length-take (r .report .written) (r .output)) in
     le-trans (two-most (figures (ranFigures k r)) (paper shows) mostBytes (outputBytes + 1) (figures-most (ranFigures k r)) most) (omega arith)
-granted-most st k bad = omega (arith, figures-most (Printed.told k (refusalNumber BadLine)))
+granted-most st k bad = omega (arith, figures-most (Printed.told k badLine))
 
 -- what a line prints has room
 pub line-most : (st : Store) (k : ℕ) (s : List ℕ) → length (deskLine storeCall st k s .bytes) ≤ paperBytes

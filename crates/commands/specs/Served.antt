@@ -5,15 +5,13 @@ use mathlib.Core.List.{List, _++_}
 use lib.IntN.{pos}
 use lib.ListN.{length, take, replicate}
 use lib.Dec.{leb}
-use Rattle.language.specs.declared.Refusal.the-variants.{BadLine}
-use Rattle.language.specs.Answers.{refusalNumber}
 use Rattle.language.specs.Limits.{maxHeight}
-use Rattle.language.specs.Roles.{openMark, cashierRole}
+use Rattle.language.specs.Roles.{openPermission, cashierRole}
 use Rattle.numerals.specs.Numerals.{Written, wrote, written}
 use Rattle.book.specs.Calls.{Call, defines, withdraws, running}
 use Rattle.book.specs.Replies.{Reply, Answered}
 use Rattle.book.specs.Store.{Store, storeCall}
-use Rattle.lines.specs.Lines.{Request, define, withdraw, run, bad, request}
+use Rattle.lines.specs.Lines.{badLine, Request, define, withdraw, run, bad, request}
 use Rattle.figures.specs.declared.Figures.{Figures}
 use Rattle.figures.specs.Printed.{figures, told, paper, top}
 
@@ -57,12 +55,12 @@ module _ {S : Type 0} (f : S → Call → Answered S) where
   -- `D` defines open letters and `R` runs as a cashier."
   unfoldable pub granted : S → ℕ → Request → Served S
   unfolding figures shown
-  granted s k (define l t) = let x = f s (defines l openMark t) in serves (x .kept) (figures (told k (x .reply .report .number)))
+  granted s k (define l t) = let x = f s (defines l openPermission t) in serves (x .kept) (figures (told k (x .reply .report .number)))
   granted s k (withdraw l) = let x = f s (withdraws l) in serves (x .kept) (figures (told k (x .reply .report .number)))
   granted s k (run l n i) =
       let x = f s (running l cashierRole n i (replicate maxHeight (pos 0)) (replicate outputBytes 0)) in
       serves (x .kept) (shown k (x .reply))
-  granted s k bad = serves s (figures (told k (refusalNumber BadLine)))
+  granted s k bad = serves s (figures (told k badLine))
 
   -- the same of the bytes of line k, without its newline
   unfoldable pub deskLine : S → ℕ → List ℕ → Served S

@@ -15,9 +15,9 @@ use language::CASHIER;
 use language::HEIGHT;
 use language::LETTERS;
 use language::OPEN;
-use language::Refusal;
 use language::STORE_CELLS;
 use language::VARIABLES;
+use lines::BAD_LINE;
 use lines::Command;
 use lines::FIELD_START;
 use lines::INPUTS;
@@ -48,17 +48,17 @@ fn tell(paper: &mut [u8], line: u32, answer: u32) -> usize
 fn execute(
     cells: &[i32; STORE_CELLS],
     used: &[usize; LETTERS],
-    marks: &[u32; LETTERS],
+    permissions: &[u32; LETTERS],
     vars: &mut [i32; VARIABLES],
     line: u32,
-    letter: u8,
+    letter: u32,
     allowance: u32,
     inputs: &[i32],
     paper: &mut [u8],
 ) -> usize
     requires { ⌜ paperBytes ≤ length (now paper) ⌝ }
-    ensures { λ r. ⌜ performs (storeOf (now (cells .entry)) (now (used .entry)) (now (marks .entry)) (now (vars .exit))) r (now (paper .exit))
-        ≡ printed (now (paper .entry)) (granted storeCall (storeOf (now (cells .entry)) (now (used .entry)) (now (marks .entry)) (now (vars .entry))) line
+    ensures { λ r. ⌜ performs (storeOf (now (cells .entry)) (now (used .entry)) (now (permissions .entry)) (now (vars .exit))) r (now (paper .exit))
+        ≡ printed (now (paper .entry)) (granted storeCall (storeOf (now (cells .entry)) (now (used .entry)) (now (permissions .entry)) (now (vars .entry))) line
         (run letter allowance (now (inputs .entry)))) ⌝ }
 {
     let mut list = [0i32; HEIGHT];
@@ -66,7 +66,7 @@ fn execute(
     let report = runner::run(
         cells,
         used,
-        marks,
+        permissions,
         vars,
         letter,
         CASHIER,
@@ -94,14 +94,14 @@ fn execute(
 pub fn perform(
     cells: &mut [i32; STORE_CELLS],
     used: &mut [usize; LETTERS],
-    marks: &mut [u32; LETTERS],
+    permissions: &mut [u32; LETTERS],
     vars: &mut [i32; VARIABLES],
     number: u32,
     line: &[u8],
     paper: &mut [u8],
 ) -> usize
-    ensures { λ r. ⌜ performs (storeOf (now (cells .exit)) (now (used .exit)) (now (marks .exit)) (now (vars .exit))) r (now (paper .exit))
-        ≡ performed (storeOf (now (cells .entry)) (now (used .entry)) (now (marks .entry)) (now (vars .entry))) number (now (line .entry)) (now (paper .entry)) ⌝ }
+    ensures { λ r. ⌜ performs (storeOf (now (cells .exit)) (now (used .exit)) (now (permissions .exit)) (now (vars .exit))) r (now (paper .exit))
+        ≡ performed (storeOf (now (cells .entry)) (now (used .entry)) (now (permissions .entry)) (now (vars .entry))) number (now (line .entry)) (now (paper .entry)) ⌝ }
 {
     if paper.len() < PAPER {
         return 0;
@@ -110,28 +110,34 @@ pub fn perform(
     let command = parse(line, &mut inputs);
     match command {
         Command::Define(letter) => {
-            let kept = *vars;
-            let answer = lent::define(cells, used, marks, kept, letter, OPEN, &line[FIELD_START..]);
+            let answer = lent::define(
+                cells,
+                used,
+                permissions,
+                vars,
+                letter as u32,
+                OPEN,
+                &line[FIELD_START..],
+            );
             tell(paper, number, answer)
         }
         Command::Withdraw(letter) => {
-            let kept = *vars;
-            let answer = lent::withdraw(cells, used, marks, kept, letter);
+            let answer = lent::withdraw(cells, used, permissions, vars, letter as u32);
             tell(paper, number, answer)
         }
         Command::Run(letter, allowance, count) => {
             execute(
                 cells,
                 used,
-                marks,
+                permissions,
                 vars,
                 number,
-                letter,
+                letter as u32,
                 allowance,
                 &inputs[..count],
                 paper,
             )
         }
-        Command::Bad => tell(paper, number, Refusal::BadLine.number()),
+        Command::Bad => tell(paper, number, BAD_LINE),
     }
 }

@@ -11,14 +11,14 @@ use lib.Dec.{leb, eqb}
 use borrow.Author.Tests.{lt-leb, leb-true, leb-false}
 use Rattle.language.specs.Bytes.{newlineByte}
 use Rattle.lines.specs.Lines.{maxLine, Request, define, withdraw, run, bad, provided, request}
-use Rattle.language.specs.Roles.{openMark, cashierRole}
+use Rattle.language.specs.Roles.{openPermission, cashierRole}
 use Rattle.language.specs.Limits.{maxHeight}
 use Rattle.book.specs.Calls.{Call, defines, withdraws, running}
 use Rattle.book.specs.Replies.{Reply, Answered}
 use Rattle.book.specs.Book.{freshBook, bookCall}
 use Rattle.book.specs.Store.{freshStore, storeCall}
-use Rattle.book.specs.History.{answers}
-use Rattle.book.proofs.History.{answers-agree}
+use Rattle.book.specs.Sessions.{answers}
+use Rattle.book.proofs.History.{calls-agree}
 use Rattle.figures.specs.Printed.{figures, told}
 use Rattle.commands.specs.Served.{outputBytes, Served, shown, granted, deskLine}
 use Rattle.console.specs.Day.{maxLines, lastLine, linesFrom, Progress, starts, session, dayFrom, dayOf, DayOfStore}
@@ -47,7 +47,7 @@ module _ {S T : Type 0} (f : S → Call → Answered S) (g : T → Call → Answ
   alike-request : (s : S) (t : T) (k : ℕ) (q : Request) → Alike s t
       → (granted f s k q .bytes ≡ granted g t k q .bytes) × Alike (granted f s k q .kept) (granted g t k q .kept)
   unfolding granted
-  alike-request s t k (define l x) h = (ap (λ (r : Reply). figures (told k (r .report .number))) (alike-reply s t (defines l openMark x) h), alike-next s t (defines l openMark x) h)
+  alike-request s t k (define l x) h = (ap (λ (r : Reply). figures (told k (r .report .number))) (alike-reply s t (defines l openPermission x) h), alike-next s t (defines l openPermission x) h)
   alike-request s t k (withdraw l) h = (ap (λ (r : Reply). figures (told k (r .report .number))) (alike-reply s t (withdraws l) h), alike-next s t (withdraws l) h)
   alike-request s t k (run l n i) h = let c = lendsRun l n i in (ap (λ (r : Reply). shown k r) (alike-reply s t c h), alike-next s t c h)
   alike-request s t k bad h = (refl, h)
@@ -62,7 +62,7 @@ module _ {S T : Type 0} (f : S → Call → Answered S) (g : T → Call → Answ
 
 pub day-of-store : DayOfStore
 unfolding dayOf dayFrom
-day-of-store i = alike-session storeCall bookCall (take maxLines (linesFrom [] i)) freshStore freshBook 1 answers-agree
+day-of-store i = alike-session storeCall bookCall (take maxLines (linesFrom [] i)) freshStore freshBook 1 calls-agree
 
 -- ── lines in parts ──────────────────────────────────────────────────────────────────────────────
 

@@ -79,7 +79,7 @@ fn silent(place: Place, taken: usize) -> Advance
 pub fn step(
     cells: &mut [i32; STORE_CELLS],
     used: &mut [usize; LETTERS],
-    marks: &mut [u32; LETTERS],
+    permissions: &mut [u32; LETTERS],
     vars: &mut [i32; VARIABLES],
     line: &mut [u8],
     place: Place,
@@ -87,8 +87,8 @@ pub fn step(
     paper: &mut [u8],
 ) -> Advance
     ensures { λ r. ⌜ Steps (now (line .entry)) (now (paper .entry)) (now (part .entry))
-        (progress (storeOf (now (cells .entry)) (now (used .entry)) (now (marks .entry)) (now (vars .entry))) place (now (line .entry)))
-        (advances (progress (storeOf (now (cells .exit)) (now (used .exit)) (now (marks .exit)) (now (vars .exit))) (r .place) (now (line .exit)))
+        (progress (storeOf (now (cells .entry)) (now (used .entry)) (now (permissions .entry)) (now (vars .entry))) place (now (line .entry)))
+        (advances (progress (storeOf (now (cells .exit)) (now (used .exit)) (now (permissions .exit)) (now (vars .exit))) (r .place) (now (line .exit)))
         (r .taken) (r .printed) (now (paper .exit))) ⌝ }
 {
     if line.len() < KEPT {
@@ -111,7 +111,7 @@ pub fn step(
     }
     let number = place.done + 1;
     let taken = end + 1; // the newline too
-    let printed = perform(cells, used, marks, vars, number, &line[..kept], paper); // the line is whole
+    let printed = perform(cells, used, permissions, vars, number, &line[..kept], paper); // the line is whole
     let next = Place {
         done: number,
         kept: 0, // the next line
@@ -127,15 +127,15 @@ pub fn step(
 pub fn finish(
     cells: &mut [i32; STORE_CELLS],
     used: &mut [usize; LETTERS],
-    marks: &mut [u32; LETTERS],
+    permissions: &mut [u32; LETTERS],
     vars: &mut [i32; VARIABLES],
     line: &[u8],
     place: Place,
     paper: &mut [u8],
 ) -> Advance
     ensures { λ r. ⌜ Ends (now (line .entry)) (now (paper .entry))
-        (progress (storeOf (now (cells .entry)) (now (used .entry)) (now (marks .entry)) (now (vars .entry))) place (now (line .entry)))
-        (advances (progress (storeOf (now (cells .exit)) (now (used .exit)) (now (marks .exit)) (now (vars .exit))) (r .place) (now (line .entry)))
+        (progress (storeOf (now (cells .entry)) (now (used .entry)) (now (permissions .entry)) (now (vars .entry))) place (now (line .entry)))
+        (advances (progress (storeOf (now (cells .exit)) (now (used .exit)) (now (permissions .exit)) (now (vars .exit))) (r .place) (now (line .entry)))
         (r .taken) (r .printed) (now (paper .exit))) ⌝ }
 {
     if line.len() < KEPT {
@@ -152,7 +152,7 @@ pub fn finish(
     }
     let kept = least(place.kept, KEPT);
     let number = place.done + 1;
-    let printed = perform(cells, used, marks, vars, number, &line[..kept], paper);
+    let printed = perform(cells, used, permissions, vars, number, &line[..kept], paper);
     let next = Place {
         done: number,
         kept: 0,

@@ -19,7 +19,7 @@ pub fn call<'a>(
     m: Machine,
     cells: &'a [i32; STORE_CELLS],
     used: &'a [usize; LETTERS],
-    marks: &'a [u32; LETTERS],
+    permissions: &'a [u32; LETTERS],
     role: u32,
     base: usize,
     end: usize,
@@ -27,7 +27,7 @@ pub fn call<'a>(
     a: usize,
 ) -> Machine
     requires { ⌜ Calling base end m a (now frames) ⌝ }
-    ensures { λ r. ⌜ Called (markAt (now (cells .entry)) base end (isCall a)) (now (used .entry)) (now (marks .entry)) role m (now (frames .entry)) r (now (frames .exit)) ⌝ }
+    ensures { λ r. ⌜ Called (markAt (now (cells .entry)) base end (isCall a)) (now (used .entry)) (now (permissions .entry)) role m (now (frames .entry)) r (now (frames .exit)) ⌝ }
 {
     let f = exit_of(cells, base, end, m.at);
     if f == 0 {
@@ -39,7 +39,7 @@ pub fn call<'a>(
     if used[a] == 0 {
         return m.stop(Ending::NoText);
     }
-    if bars(role, marks[a]) {
+    if bars(role, permissions[a]) {
         return m.stop(Ending::StewardCall);
     }
     let d = m.depth;

@@ -29,7 +29,7 @@ fn print(input: &[u8], output: &mut [u8]) -> usize
 {
     let mut cells = [0i32; STORE_CELLS];
     let mut used = [0usize; LETTERS];
-    let mut marks = [OPEN; LETTERS];
+    let mut permissions = [OPEN; LETTERS];
     let mut vars = [0i32; VARIABLES];
     let mut line = [0u8; KEPT];
     let mut paper = [0u8; PAPER];
@@ -40,7 +40,7 @@ fn print(input: &[u8], output: &mut [u8]) -> usize
         let a = step(
             &mut cells,
             &mut used,
-            &mut marks,
+            &mut permissions,
             &mut vars,
             &mut line,
             place,
@@ -56,7 +56,7 @@ fn print(input: &[u8], output: &mut [u8]) -> usize
     let e = finish(
         &mut cells,
         &mut used,
-        &mut marks,
+        &mut permissions,
         &mut vars,
         &line,
         place,
@@ -81,4 +81,13 @@ pub fn play(input: &[u8], output: &mut [u8]) -> Written
     }
     print(input, output);
     Written { number: 0, count }
+}
+
+// The same for C: the number, and how many bytes were written beside it.
+pub fn play_into(input: &[u8], output: &mut [u8], written: &mut usize) -> u32
+    ensures { λ r. ⌜ delivers r (now (written .exit)) (now (output .exit)) ≡ played (now (output .entry)) (dayOf (now (input .entry))) ⌝ }
+{
+    let w = play(input, output);
+    *written = w.count;
+    w.number
 }

@@ -101,7 +101,7 @@ fn is_due(held: usize, person: bool, steps: u32) -> bool
 fn serve(
     cells: &mut [i32; STORE_CELLS],
     used: &mut [usize; LETTERS],
-    marks: &mut [u32; LETTERS],
+    permissions: &mut [u32; LETTERS],
     vars: &mut [i32; VARIABLES],
     line: &mut [u8],
     place: Place,
@@ -111,8 +111,8 @@ fn serve(
 ) -> Advance
     requires { ⌜ Lent (now line) (now out) ⌝ }
     ensures { λ r. ⌜ Serves (now (part .entry))
-        (progress (storeOf (now (cells .entry)) (now (used .entry)) (now (marks .entry)) (now (vars .entry))) place (now (line .entry)))
-        (advances (progress (storeOf (now (cells .exit)) (now (used .exit)) (now (marks .exit)) (now (vars .exit))) (r .place) (now (line .exit)))
+        (progress (storeOf (now (cells .entry)) (now (used .entry)) (now (permissions .entry)) (now (vars .entry))) place (now (line .entry)))
+        (advances (progress (storeOf (now (cells .exit)) (now (used .exit)) (now (permissions .exit)) (now (vars .exit))) (r .place) (now (line .exit)))
         (r .taken) (r .printed) (now (out .exit))) ⌝ }
 {
     let mut p = place;
@@ -131,7 +131,7 @@ fn serve(
         let a = step(
             cells,
             used,
-            marks,
+            permissions,
             vars,
             line,
             p,
@@ -160,7 +160,7 @@ struct Relayed {
 fn relay(
     cells: &mut [i32; STORE_CELLS],
     used: &mut [usize; LETTERS],
-    marks: &mut [u32; LETTERS],
+    permissions: &mut [u32; LETTERS],
     vars: &mut [i32; VARIABLES],
     line: &mut [u8],
     place: Place,
@@ -170,14 +170,24 @@ fn relay(
 ) -> Relayed
     requires { ⌜ Lent (now line) (now out) ⌝ }
     ensures { λ r. ⌜ Relays (now (part .entry))
-        (progress (storeOf (now (cells .entry)) (now (used .entry)) (now (marks .entry)) (now (vars .entry))) place (now (line .entry)))
-        (progress (storeOf (now (cells .exit)) (now (used .exit)) (now (marks .exit)) (now (vars .exit))) (r .place) (now (line .exit)))
+        (progress (storeOf (now (cells .entry)) (now (used .entry)) (now (permissions .entry)) (now (vars .entry))) place (now (line .entry)))
+        (progress (storeOf (now (cells .exit)) (now (used .exit)) (now (permissions .exit)) (now (vars .exit))) (r .place) (now (line .exit)))
         (r .taken) (r .written) ⌝ }
 {
     let mut p = place;
     let mut at: usize = 0;
     while at < part.len() {
-        let a = serve(cells, used, marks, vars, line, p, &part[at..], out, person);
+        let a = serve(
+            cells,
+            used,
+            permissions,
+            vars,
+            line,
+            p,
+            &part[at..],
+            out,
+            person,
+        );
         p = a.place;
         at += a.taken; // the next steps of this part
         let written = write_answers(out, a.printed, p.done);
@@ -200,13 +210,13 @@ fn relay(
 fn attend(
     cells: &mut [i32; STORE_CELLS],
     used: &mut [usize; LETTERS],
-    marks: &mut [u32; LETTERS],
+    permissions: &mut [u32; LETTERS],
     vars: &mut [i32; VARIABLES],
     line: &mut [u8],
     out: &mut [u8],
     person: bool,
 )
-    requires { ⌜ Fresh (storeOf (now cells) (now used) (now marks) (now vars)) (now line) (now out) ⌝ }
+    requires { ⌜ Fresh (storeOf (now cells) (now used) (now permissions) (now vars)) (now line) (now out) ⌝ }
 {
     let mut buffer = io::large_buffer();
     let mut p = Place { done: 0, kept: 0 };
@@ -221,11 +231,21 @@ fn attend(
         let n = io::count(got, &buffer);
         if n == 0 {
             // "the newline, which the last may lack"
-            let e = finish(cells, used, marks, vars, line, p, out);
+            let e = finish(cells, used, permissions, vars, line, p, out);
             write_answers(out, e.printed, e.place.done);
             return;
         }
-        let t = relay(cells, used, marks, vars, line, p, &buffer[..n], out, person);
+        let t = relay(
+            cells,
+            used,
+            permissions,
+            vars,
+            line,
+            p,
+            &buffer[..n],
+            out,
+            person,
+        );
         p = t.place;
         if !t.written {
             return;
@@ -236,7 +256,7 @@ fn attend(
 fn main() {
     let mut cells = [0i32; STORE_CELLS];
     let mut used = [0usize; LETTERS];
-    let mut marks = [OPEN; LETTERS];
+    let mut permissions = [OPEN; LETTERS];
     let mut vars = [0i32; VARIABLES];
     let mut line = [0u8; KEPT];
     let mut out = [0u8; HELD];
@@ -244,7 +264,7 @@ fn main() {
     attend(
         &mut cells,
         &mut used,
-        &mut marks,
+        &mut permissions,
         &mut vars,
         &mut line,
         &mut out,

@@ -68,7 +68,7 @@ pub fn turn<'a>(
     m: Machine,
     cells: &'a [i32; STORE_CELLS],
     used: &'a [usize; LETTERS],
-    marks: &'a [u32; LETTERS],
+    permissions: &'a [u32; LETTERS],
     role: u32,
     base: usize,
     end: usize,
@@ -81,9 +81,9 @@ pub fn turn<'a>(
 ) -> Machine
     requires { ⌜ Turning base end m (now frames) (now output) ⌝ }
     ensures { λ r. ⌜ Turned base end
-        (held m (now (cells .entry)) (now (used .entry)) (now (marks .entry)) role (now (inputs .entry)) (now (frames .entry)) (now (counts .entry))
+        (held m (now (cells .entry)) (now (used .entry)) (now (permissions .entry)) role (now (inputs .entry)) (now (frames .entry)) (now (counts .entry))
         (now (vars .entry)) (now (list .entry)) (now (output .entry)))
-        (held r (now (cells .entry)) (now (used .entry)) (now (marks .entry)) role (now (inputs .entry)) (now (frames .exit)) (now (counts .exit))
+        (held r (now (cells .entry)) (now (used .entry)) (now (permissions .entry)) role (now (inputs .entry)) (now (frames .exit)) (now (counts .exit))
         (now (vars .exit)) (now (list .exit)) (now (output .exit))) ⌝ }
 {
     if end < m.at + 2 {
@@ -117,7 +117,7 @@ pub fn turn<'a>(
                     m,
                     cells,
                     used,
-                    marks,
+                    permissions,
                     role,
                     base,
                     end,

@@ -3,7 +3,7 @@ use mathlib.Core.Path.{_≡_, refl, subst}
 use mathlib.Core.List.{List, [], _∷_, map}
 use Rattle.dividend.specs.declared.Settlement.{Settlement}
 use Rattle.dividend.specs.Dividend.{Settles}
-use Rattle.dividend.specs.Examples.{Race, races, Hold, RacesHold, AnswersHold}
+use Rattle.dividend.specs.Examples.{Race, races, Hold, RacesHold, AnswersHold, PayoutHolds}
 use Rattle.dividend.proofs.Settled.{settled, settles}
 
 -- what comes of a race, computed
@@ -24,3 +24,6 @@ races-hold = computed races refl
 
 pub answers-hold : AnswersHold
 answers-hold = (refl, refl, refl, refl, refl, refl)
+
+pub payout-holds : PayoutHolds
+payout-holds = refl

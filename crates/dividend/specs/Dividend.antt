@@ -1,6 +1,7 @@
 -- Document 02, U4: paying on the pool.
 use mathlib.Core.Path.{_≡_}
 use mathlib.Core.Bool.{Bool, true, false, _&&_}
+use mathlib.Core.List.{List, [], _∷_}
 use Prim.Native.Nat.{ℕ, _*_, _-_, _/_, _%_, _≤_}
 use lib.Dec.{leb}
 use Rattle.dividend.specs.declared.Payout.{Payout}
@@ -79,10 +80,10 @@ abbrev pub noWinner : ℕ
 noWinner = 32
 
 -- the number of what comes of a pool
-abbrev pub numberOf : Settlement → ℕ
-numberOf (Pays p) = 0
-numberOf BadPool = badPool
-numberOf NoWinner = noWinner
+abbrev pub settlementNumber : Settlement → ℕ
+settlementNumber (Pays p) = 0
+settlementNumber BadPool = badPool
+settlementNumber NoWinner = noWinner
 
 -- "A refusal of any call returns its number, every other figure 0"
 abbrev pub noPayout : Payout
@@ -93,3 +94,16 @@ abbrev pub payoutOf : Settlement → Payout
 payoutOf (Pays p) = p
 payoutOf BadPool = noPayout
 payoutOf NoWinner = noPayout
+
+-- ── for C ───────────────────────────────────────────────────────────────────────────────────────
+
+-- "takeout, net, dividend, payments (dividend × stakes) and breakage"
+abbrev pub payoutFigures : Payout → List ℕ
+payoutFigures p = p .takeout ∷ p .net ∷ p .dividend ∷ p .payments ∷ p .breakage ∷ []
+
+-- the number n that is returned and the figures f are those of what comes of the pool
+pub record SettledInto (pool rate stakes n : ℕ) (f : List ℕ) : Type 0 where
+  pub settlement : Settlement
+  pub settles : Settles pool rate stakes settlement
+  pub number : n ≡ settlementNumber settlement
+  pub figures : f ≡ payoutFigures (payoutOf settlement)

@@ -4,7 +4,7 @@ use mathlib.Core.List.{List, [], _∷_}
 use Prim.Native.Nat.{ℕ}
 use Rattle.dividend.specs.declared.Settlement.{Settlement}
 use Rattle.dividend.specs.declared.Settlement.the-variants.{Pays, BadPool, NoWinner}
-use Rattle.dividend.specs.Dividend.{Settles, numberOf, payoutOf}
+use Rattle.dividend.specs.Dividend.{Settles, settlementNumber, payoutOf, payoutFigures}
 
 -- a pool, its takeout, the winning stakes, and what comes of it
 pub record Race : Type 0 where
@@ -64,9 +64,13 @@ RacesHold = Hold races
 -- the number of each answer; a refused pool has no figure but 0. proofs/Examples `answers-hold`
 abbrev pub AnswersHold : Type 0
 AnswersHold =
-    (numberOf (paid 1 2 3 4 5) ≡ 0)
-    × (numberOf BadPool ≡ 31)
-    × (numberOf NoWinner ≡ 32)
+    (settlementNumber (paid 1 2 3 4 5) ≡ 0)
+    × (settlementNumber BadPool ≡ 31)
+    × (settlementNumber NoWinner ≡ 32)
     × (Pays (payoutOf (paid 1 2 3 4 5)) ≡ paid 1 2 3 4 5)
     × (Pays (payoutOf BadPool) ≡ paid 0 0 0 0 0)
     × (Pays (payoutOf NoWinner) ≡ paid 0 0 0 0 0)
+
+-- takeout, net, dividend, payments, breakage. proofs/Examples `payout-holds`
+abbrev pub PayoutHolds : Type 0
+PayoutHolds = payoutFigures (record { takeout = 1; net = 2; dividend = 3; payments = 4; breakage = 5 }) ≡ 1 ∷ 2 ∷ 3 ∷ 4 ∷ 5 ∷ []

@@ -1,7 +1,7 @@
 // The win dividend: what a pool pays on each winning stake.
 ghost use mathlib.Core.Path.{_≡_};
 ghost use Prim.Native.Nat.{_≤_};
-ghost use Rattle.dividend.specs.Dividend.{takeoutOf, inBounds, IsDividend, Settles, numberOf, payoutOf, noPayout};
+ghost use Rattle.dividend.specs.Dividend.{takeoutOf, inBounds, IsDividend, Settles, settlementNumber, payoutOf, noPayout, SettledInto};
 
 // "the pool in cents (0 to 999,999,999)"
 const MOST_POOL: u32 = 999999999;
@@ -24,6 +24,9 @@ const BAD_POOL: u32 = 31;
 // "32 no winner, stakes are 0"
 const NO_WINNER: u32 = 32;
 
+// How many figures a payout has.
+pub const FIGURES: usize = 5;
+
 // The figures of a pool that is paid out: the dividend in cents for one stake, the others in cents.
 pub struct Payout {
     pub takeout: u64,
@@ -43,7 +46,7 @@ pub enum Settlement {
 impl Settlement {
     // Document 02's number, 0 where the pool is paid out.
     pub fn number(self) -> u32
-        ensures { λ r. ⌜ r ≡ numberOf self ⌝ }
+        ensures { λ r. ⌜ r ≡ settlementNumber self ⌝ }
     {
         match self {
             Settlement::Pays(_) => 0,
@@ -126,4 +129,14 @@ pub fn settle(pool: u32, rate: u32, stakes: u32) -> Settlement
         payments: payments,
         breakage: net - payments,
     })
+}
+
+// The same for C: the number, and takeout, net, dividend, payments and breakage beside it; five zeros where it is refused.
+pub fn settle_into(pool: u32, rate: u32, stakes: u32, figures: &mut [u64; FIGURES]) -> u32
+    ensures { λ r. ⌜ SettledInto pool rate stakes r (now (figures .exit)) ⌝ }
+{
+    let settlement = settle(pool, rate, stakes);
+    let p = settlement.payout();
+    *figures = [p.takeout, p.net, p.dividend, p.payments, p.breakage];
+    settlement.number()
 }

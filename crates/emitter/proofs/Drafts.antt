@@ -13,8 +13,8 @@ use borrow.Author.Tests.{le-leb, lt-leb, lt-ltb, le-ltb, eq-eqb, ne-eqb}
 use Rattle.language.specs.Limits.{maxCells, maxLevels, maxCounters, maxValue}
 use Rattle.language.specs.Layout.{opcode}
 use Rattle.numerals.proofs.Ints.{value-near, minus-is}
-use Rattle.language.specs.declared.Refusal.{Refusal}
-use Rattle.language.specs.declared.Refusal.the-variants.{Deep, TableFull, ManyCounters}
+use Rattle.language.specs.declared.Fault.{Fault}
+use Rattle.language.specs.declared.Fault.the-variants.{Deep, TableFull, ManyCounters}
 use Rattle.emitter.specs.declared.pass.Pass.{Pass}
 use Rattle.emitter.specs.Drafts.{Cell, known, closeAt, Draft, draft, refuse, lay, put, fit, atLevel, opened, closed, counterCells, countOn, counted, knownBytes, Refused}
 
@@ -66,7 +66,7 @@ bytes-length (b ∷ l) = ap suc (bytes-length l)
 -- ── what the code's functions answer ────────────────────────────────────────────────────────────
 
 -- a refusal, whatever the arrays hold
-pub refused-draft : (p r : Pass) (why : Refusal) (c : List ℤ) (k l : List ℕ) (s : List ℤ) → Refused p why r → draft r c k l s ≡ refuse (draft p c k l s) why
+pub refused-draft : (p r : Pass) (why : Fault) (c : List ℤ) (k l : List ℕ) (s : List ℤ) → Refused p why r → draft r c k l s ≡ refuse (draft p c k l s) why
 refused-draft p r why c k l s h = cc (h .fault-is, h .level-kept, h .used-kept, h .counters-kept)
 
 -- no room for the cells cs

@@ -8,11 +8,11 @@ use lib.ListN.{length, getD, set}
 use lib.Dec.{leb, ltb, eqb}
 use Rattle.language.specs.Limits.{maxText, maxLevels, maxCells, maxCounters, maxLimit}
 use Rattle.language.specs.Bytes.{closeByte, colonByte, semicolonByte}
-use Rattle.language.specs.Answers.{refusalNumber}
+use Rattle.language.specs.Answers.{faultNumber}
 use Rattle.language.specs.Syntax.{counterCode, printCode}
 use Rattle.language.specs.Layout.{opcode}
-use Rattle.language.specs.declared.Refusal.{Refusal}
-use Rattle.language.specs.declared.Refusal.the-variants.{Deep, TableFull, ManyCounters}
+use Rattle.language.specs.declared.Fault.{Fault}
+use Rattle.language.specs.declared.Fault.the-variants.{Deep, TableFull, ManyCounters}
 use Rattle.emitter.specs.declared.pass.Pass.{Pass}
 
 -- ── cells ───────────────────────────────────────────────────────────────────────────────────────
@@ -74,8 +74,8 @@ abbrev pub over : Draft → Pass → Draft
 over d p = draft p (d .cells) (d .kinds) (d .levels) (d .starts)
 
 -- a draft that is refused
-abbrev pub refuse : Draft → Refusal → Draft
-refuse d r = over d (record { fault = refusalNumber r; level = d .level; used = d .used; counters = d .counters })
+abbrev pub refuse : Draft → Fault → Draft
+refuse d r = over d (record { fault = faultNumber r; level = d .level; used = d .used; counters = d .counters })
 
 -- one more cell, with c k l for the arrays
 abbrev pub more : Draft → List ℤ → List ℕ → List ℕ → Draft
@@ -196,8 +196,8 @@ abbrev pub ByStarts : (Draft → Draft) → Pass → List ℤ → Pass → List 
 ByStarts step p s r s′ = (c : List ℤ) (k l : List ℕ) → draft r c k l s′ ≡ step (draft p c k l s)
 
 -- the code refuses, and all else of p stands
-pub record Refused (p : Pass) (why : Refusal) (r : Pass) : Type 0 where
-  pub fault-is : r .fault ≡ refusalNumber why
+pub record Refused (p : Pass) (why : Fault) (r : Pass) : Type 0 where
+  pub fault-is : r .fault ≡ faultNumber why
   pub level-kept : r .level ≡ p .level
   pub used-kept : r .used ≡ p .used
   pub counters-kept : r .counters ≡ p .counters

@@ -7,8 +7,8 @@ ghost use Rattle.language.specs.Limits.{maxCells};
 ghost use Rattle.language.specs.Layout.{opcode};
 ghost use Rattle.emitter.specs.Drafts.{known, semiAt, fit, opened, closed, coloned, operandCells, testCells, counted, printCells};
 ghost use Rattle.emitter.specs.Drafts.{Inside, Countable, Printable, Markable, ByCells, ByKinds, ByBoth, ByAll, ByStarts, Refused, AddsKnown, AddsMarked};
+use language::Fault;
 use language::PRINT_CODE;
-use language::Refusal;
 use language::Table;
 
 // What is kept for what is open in a cell, 0 where nothing is: a false exit.
@@ -51,7 +51,7 @@ impl Pass {
     }
 
     // The first fault of a text.
-    pub fn refuse(self, why: Refusal) -> Pass
+    pub fn refuse(self, why: Fault) -> Pass
         ensures { λ r. ⌜ Refused self why r ⌝ }
     {
         let mut p = self;
@@ -108,7 +108,7 @@ impl Pass {
         ensures { λ r. ⌜ ByCells (λ d. fit d (known (opcode b) ∷ [])) self (now (cells .entry)) r (now (cells .exit)) ⌝ }
     {
         if Table::CELLS < self.used + 1 {
-            return self.refuse(Refusal::TableFull);
+            return self.refuse(Fault::TableFull);
         }
         self.code(cells, b as u16)
     }
@@ -119,7 +119,7 @@ impl Pass {
         ensures { λ r. ⌜ ByCells (λ d. fit d (operandCells code value)) self (now (cells .entry)) r (now (cells .exit)) ⌝ }
     {
         if Table::CELLS < self.used + 2 {
-            return self.refuse(Refusal::TableFull);
+            return self.refuse(Fault::TableFull);
         }
         let p = self.code(cells, code as u16);
         p.put(cells, value)
@@ -138,7 +138,7 @@ impl Pass {
             r (now (cells .exit)) (now (kinds .exit)) (now (levels .exit)) ⌝ }
     {
         if Table::CELLS < self.used + 2 {
-            return self.refuse(Refusal::TableFull);
+            return self.refuse(Fault::TableFull);
         }
         let p = self.code(cells, b as u16);
         p.mark(kinds, levels, EXIT, self.level)
@@ -160,11 +160,11 @@ impl Pass {
         let order = p.counters;
         let end = p.used + 4;
         if Table::COUNTERS <= order {
-            return p.refuse(Refusal::ManyCounters);
+            return p.refuse(Fault::ManyCounters);
         }
         p.counters = order + 1;
         if Table::CELLS < end {
-            return p.refuse(Refusal::TableFull); // "9 before 8"
+            return p.refuse(Fault::TableFull); // "9 before 8"
         }
         p = p.code(cells, COUNTER_CODE as u16);
         p = p.code(cells, n as u16);
@@ -179,7 +179,7 @@ impl Pass {
             r (now (kinds .exit)) (now (levels .exit)) ⌝ }
     {
         if Table::CELLS < self.used + 1 {
-            return self.refuse(Refusal::TableFull);
+            return self.refuse(Fault::TableFull);
         }
         self.mark(kinds, levels, END, self.level)
     }
@@ -198,7 +198,7 @@ impl Pass {
     {
         let at = self.used;
         if Table::CELLS < at + 1 {
-            return self.refuse(Refusal::TableFull);
+            return self.refuse(Fault::TableFull);
         }
         let level = self.level;
         cells[at] = starts[level];
@@ -213,7 +213,7 @@ impl Pass {
         let mut p = self;
         let level = p.level;
         if Table::LEVELS <= level {
-            return p.refuse(Refusal::Deep);
+            return p.refuse(Fault::Deep);
         }
         let deeper = level + 1;
         starts[deeper] = (p.used + 1) as i32;
@@ -238,13 +238,13 @@ impl Pass {
         p.level = around;
         if around == 0 {
             if Table::CELLS < at + 2 {
-                return p.refuse(Refusal::TableFull);
+                return p.refuse(Fault::TableFull);
             }
             p = p.mark(kinds, levels, CLOSE, around);
             return p.put(cells, 1);
         }
         if Table::CELLS < at + 1 {
-            return p.refuse(Refusal::TableFull);
+            return p.refuse(Fault::TableFull);
         }
         p.mark(kinds, levels, CLOSE, around)
     }
@@ -261,7 +261,7 @@ impl Pass {
         ensures { λ r. ⌜ ByCells (λ d. fit d (printCells (take len (drop from (now (text .entry)))))) self (now (cells .entry)) r (now (cells .exit)) ⌝ }
     {
         if Table::CELLS < self.used + 2 + len {
-            return self.refuse(Refusal::TableFull);
+            return self.refuse(Fault::TableFull);
         }
         let mut p = self.code(cells, PRINT_CODE as u16);
         p = p.put(cells, len as i32);

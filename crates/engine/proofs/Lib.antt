@@ -1,3 +1,1 @@
-pub mod Demand3
-pub mod Reach
-pub mod Stewards
+pub mod Stored

@@ -1,9 +1,8 @@
-// The engine: a store of texts under the letters a to z, with define, withdraw and run, and the report of what a letter can reach.
+// Document 01's form by value: a store of texts under the letters a to z, with define, withdraw and run.
 ghost use mathlib.Core.Path.{_≡_};
 ghost use Rattle.book.specs.Calls.{defines, withdraws, running};
 ghost use Rattle.book.specs.Store.{freshStore, storeCall};
-ghost use Rattle.engine.specs.Stored.{stored, told, answered};
-ghost use Rattle.engine.specs.Reach.{Reported};
+ghost use Rattle.engine.specs.Stored.{stored, changed, answered};
 use book::Report;
 use language::LETTERS;
 use language::OPEN;
@@ -12,16 +11,16 @@ use language::VARIABLES;
 
 mod steps;
 
-// 26 letters' tables with their used-cell counts and marks, and ten variables. The cells of letter a are the first 250.
+// 26 letters' tables with their used-cell counts and permissions, and ten variables. The cells of letter a are the first 250.
 pub struct Store {
     pub cells: [i32; STORE_CELLS],
     pub used: [usize; LETTERS],
-    pub marks: [u32; LETTERS],
+    pub permissions: [u32; LETTERS],
     pub vars: [i32; VARIABLES],
 }
 
 // The store after a define or a withdraw, and 0 or the refusal's number.
-pub struct Told {
+pub struct Changed {
     pub store: Store,
     pub number: u32,
 }
@@ -40,48 +39,56 @@ impl Store {
         Store {
             cells: [0i32; STORE_CELLS],
             used: [0usize; LETTERS],
-            marks: [OPEN; LETTERS],
+            permissions: [OPEN; LETTERS],
             vars: [0i32; VARIABLES],
         }
     }
 
-    // The letter's table becomes that of the text, and its mark the one given.
-    pub fn define(self, letter: u8, mark: u32, text: &[u8]) -> Told
-        ensures { λ r. ⌜ told r (defines letter mark (now (text .entry))) ≡ storeCall (stored self) (defines letter mark (now (text .entry))) ⌝ }
+    // The letter's table becomes that of the text, and its permission the one given.
+    pub fn define(self, letter: u32, permission: u32, text: &[u8]) -> Changed
+        ensures { λ r. ⌜ changed r (defines letter permission (now (text .entry))) ≡ storeCall (stored self) (defines letter permission (now (text .entry))) ⌝ }
     {
         let mut cells = self.cells;
         let mut used = self.used;
-        let mut marks = self.marks;
+        let mut permissions = self.permissions;
         let vars = self.vars;
-        let number = lent::define(&mut cells, &mut used, &mut marks, vars, letter, mark, text);
+        let number = lent::define(
+            &mut cells,
+            &mut used,
+            &mut permissions,
+            &vars,
+            letter,
+            permission,
+            text,
+        );
         let defined = Store {
             cells,
             used,
-            marks,
+            permissions,
             vars,
         };
-        Told {
+        Changed {
             store: defined,
             number,
         }
     }
 
-    // The letter's text goes, and its mark is open.
-    pub fn withdraw(self, letter: u8) -> Told
-        ensures { λ r. ⌜ told r (withdraws letter) ≡ storeCall (stored self) (withdraws letter) ⌝ }
+    // The letter's text goes, and its permission is open.
+    pub fn withdraw(self, letter: u32) -> Changed
+        ensures { λ r. ⌜ changed r (withdraws letter) ≡ storeCall (stored self) (withdraws letter) ⌝ }
     {
         let mut cells = self.cells;
         let mut used = self.used;
-        let mut marks = self.marks;
+        let mut permissions = self.permissions;
         let vars = self.vars;
-        let number = lent::withdraw(&mut cells, &mut used, &mut marks, vars, letter);
+        let number = lent::withdraw(&mut cells, &mut used, &mut permissions, &vars, letter);
         let cleared = Store {
             cells,
             used,
-            marks,
+            permissions,
             vars,
         };
-        Told {
+        Changed {
             store: cleared,
             number,
         }
@@ -90,7 +97,7 @@ impl Store {
     // The letter's text is obeyed for a caller with this role.
     pub fn run(
         self,
-        letter: u8,
+        letter: u32,
         role: u32,
         allowance: u32,
         inputs: &[i32],
@@ -101,12 +108,12 @@ impl Store {
             ≡ storeCall (stored self) (running letter role allowance (now (inputs .entry)) (now (list .entry)) (now (output .entry))) ⌝ }
     {
         let used = self.used;
-        let marks = self.marks;
+        let permissions = self.permissions;
         let mut vars = self.vars;
         let report = runner::run(
             &self.cells,
             &used,
-            &marks,
+            &permissions,
             &mut vars,
             letter,
             role,
@@ -118,27 +125,5 @@ impl Store {
         let mut store = self;
         store.vars = vars;
         Answer { store, report }
-    }
-
-    // Which letters the letter may call, through however many others, and which of those have no text.
-    pub fn reach(self, letter: u8, reached: &mut [u8; LETTERS], missing: &mut [u8; LETTERS]) -> Told
-        ensures { λ r. ⌜ Reported self letter (now (reached .entry)) (now (missing .entry)) r (now (reached .exit)) (now (missing .exit)) ⌝ }
-    {
-        let counts = self.used;
-        let marks = self.marks;
-        let vars = self.vars;
-        let number = reach::reach(
-            &self.cells,
-            &counts,
-            &marks,
-            &vars,
-            letter,
-            reached,
-            missing,
-        );
-        Told {
-            store: self,
-            number,
-        }
     }
 }

@@ -1,6 +1,7 @@
 // Document 01's examples that are not starred, each tried and printed beside what it should give. The last line counts the differences.
 use engine::Store;
 use language::CASHIER;
+use language::FIRST_LETTER;
 use language::HEIGHT;
 use language::MOST_VALUE;
 use language::OPEN;
@@ -12,6 +13,12 @@ struct Given {
     steps: u32,
     top: i32,
 }
+
+// The letter d.
+const LETTER_D: u32 = 100;
+
+// The letter m.
+const LETTER_M: u32 = 109;
 
 // What a define gave: its number, and the cells that letter a then uses.
 struct Linked {
@@ -32,10 +39,10 @@ fn power(input: i32) -> Given {
     let inputs = [input; 1];
     let mut list = [0i32; HEIGHT];
     let mut output = [0u8; 16];
-    let d = Store::fresh().define(b'd', OPEN, b"(0L'/1';'/1'-d'/2'*;)");
-    let m = d.store.define(b'm', OPEN, b"(Id;)");
+    let d = Store::fresh().define(LETTER_D, OPEN, b"(0L'/1';'/1'-d'/2'*;)");
+    let m = d.store.define(LETTER_M, OPEN, b"(Id;)");
     let r = m.store
-        .run(b'm', CASHIER, 1000, &inputs, &mut list, &mut output);
+        .run(LETTER_M, CASHIER, 1000, &inputs, &mut list, &mut output);
     let report = r.report;
     Given {
         number: report.number,
@@ -45,7 +52,7 @@ fn power(input: i32) -> Given {
 }
 
 fn link(text: &[u8]) -> Linked {
-    let a = Store::fresh().define(b'a', OPEN, text);
+    let a = Store::fresh().define(FIRST_LETTER, OPEN, text);
     let used = a.store.used;
     Linked {
         number: a.number,

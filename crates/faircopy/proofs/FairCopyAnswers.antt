@@ -8,7 +8,7 @@ use lib.Seq.{paste, take-length, take-paste, length-paste}
 use Rattle.language.specs.Limits.{maxText}
 use Rattle.language.specs.Syntax.{Expr}
 use Rattle.language.specs.Reading.{Reading, refused, accepted, read}
-use Rattle.language.proofs.Answers.{refusal-not-zero}
+use Rattle.language.proofs.Answers.{fault-not-zero}
 use Rattle.language.proofs.Grammar.{reading-sound}
 use Rattle.linker.specs.declared.Linked.{Linked}
 use Rattle.linker.specs.Linked.{linked}
@@ -32,7 +32,7 @@ module _ (s : List ℕ) (l : Linked) (e : l ≡ linked (read s)) where
   accepted-text o m n = go (read s) refl
     where
       go : (r : Reading) → read s ≡ r → Copies s o
-      go (refused f) h = absurd (refusal-not-zero f (sym (ap (λ (x : Linked). x .number) (e ∙ ap linked h)) ∙ n))
+      go (refused f) h = absurd (fault-not-zero f (sym (ap (λ (x : Linked). x .number) (e ∙ ap linked h)) ∙ n))
       go (accepted w) h = record { expression = w; reads = h; room = let k = reading-sound s w h .limits .text in omega arith }
 
 -- n bytes, which are the copy of the text s, were written at the start of a buffer

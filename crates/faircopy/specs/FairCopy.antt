@@ -4,7 +4,7 @@ use Rattle.language.specs.Limits.{maxVariables}
 use mathlib.Core.List.{List, [], _∷_, _++_}
 use mathlib.Core.Option.{Option, none, some}
 use lib.IntN.{ℤ, pos}
-use Rattle.language.specs.Answers.{refusalNumber}
+use Rattle.language.specs.Answers.{faultNumber}
 use Rattle.language.specs.Bytes.{dollarByte, tickByte, openByte, closeByte, slashByte, digitByte, colonByte, semicolonByte}
 use Rattle.language.specs.Letters.{letterByte}
 use Rattle.language.specs.Decimals.{decimal}
@@ -76,10 +76,10 @@ abbrev pub shortPaper : ℕ
 shortPaper = 30
 
 -- the number of what comes of a copy
-abbrev pub numberOf : Copied → ℕ
-numberOf (Whole n) = 0
-numberOf (Refused n) = n
-numberOf ShortPaper = shortPaper
+abbrev pub copyNumber : Copied → ℕ
+copyNumber (Whole n) = 0
+copyNumber (Refused n) = n
+copyNumber ShortPaper = shortPaper
 
 -- "The call returns the copy's length"
 abbrev pub lengthOf : Copied → ℕ
@@ -90,5 +90,5 @@ lengthOf ShortPaper = 0
 -- What a call leaves: its number, the copy's length, and the paper p. "Linker refusals apply first." "bytes past it, and the whole buffer on refusal, keep
 -- their content"
 abbrev pub copied : List ℕ → Reading → Delivery
-copied p (refused r) = delivers (refusalNumber r) 0 p
+copied p (refused r) = delivers (faultNumber r) 0 p
 copied p (accepted w) = delivered shortPaper p (fairCopy w)

@@ -6,7 +6,7 @@ ghost use lib.ListN.{length, getD, drop};
 ghost use Rattle.language.specs.Syntax.{Expr};
 ghost use Rattle.language.specs.Reading.{accepted, read};
 ghost use Rattle.numerals.specs.Numerals.{wrote, written, delivers};
-ghost use Rattle.faircopy.specs.FairCopy.{fairCopy, numberOf, lengthOf, copied};
+ghost use Rattle.faircopy.specs.FairCopy.{fairCopy, copyNumber, lengthOf, copied};
 ghost use Rattle.faircopy.specs.Steps.{reach, zeros, throughStep, counterStep, signBytes, digitsStep, constantStep, tickStep, stepOf, Moves, Fits, Stands, Copies};
 use language::TEXT;
 use linker::link;
@@ -25,7 +25,7 @@ pub enum Copied {
 impl Copied {
     // Document 02's number, 0 where there is a copy.
     pub fn number(self) -> u32
-        ensures { λ r. ⌜ r ≡ numberOf self ⌝ }
+        ensures { λ r. ⌜ r ≡ copyNumber self ⌝ }
     {
         match self {
             Copied::Whole(_) => 0,
@@ -234,7 +234,7 @@ fn copy_text(text: &[u8], out: &mut [u8]) -> usize
 // The fair copy of a text at the start of the paper, whose other bytes stay as they were. Where the text is refused, or the copy does not all fit, the
 // paper stays as it was.
 pub fn fair_copy(text: &[u8], paper: &mut [u8]) -> Copied
-    ensures { λ r. ⌜ delivers (numberOf r) (lengthOf r) (now (paper .exit)) ≡ copied (now (paper .entry)) (read (now (text .entry))) ⌝ }
+    ensures { λ r. ⌜ delivers (copyNumber r) (lengthOf r) (now (paper .exit)) ≡ copied (now (paper .entry)) (read (now (text .entry))) ⌝ }
 {
     let l = link(text);
     if l.number != 0 {
@@ -247,4 +247,13 @@ pub fn fair_copy(text: &[u8], paper: &mut [u8]) -> Copied
     }
     write_bytes(paper, 0, &copy[..count]);
     Copied::Whole(count)
+}
+
+// The same for C: the number, and the copy's length beside it.
+pub fn copy_into(text: &[u8], paper: &mut [u8], written: &mut usize) -> u32
+    ensures { λ r. ⌜ delivers r (now (written .exit)) (now (paper .exit)) ≡ copied (now (paper .entry)) (read (now (text .entry))) ⌝ }
+{
+    let c = fair_copy(text, paper);
+    *written = c.length();
+    c.number()
 }

@@ -1,17 +1,29 @@
 -- What specs/Claims states.
 use mathlib.Core.Path.{_≡_, refl, sym, ap, _∙_, subst}
-use mathlib.Core.Bool.{Bool, true, false, cond, true≢false}
+use mathlib.Core.Bool.{Bool, true, false, cond, _&&_, true≢false, false≢true}
+use mathlib.Core.Option.{Option, none, some}
 use mathlib.Core.List.{List}
 use Prim.Native.Nat.{ℕ, zero, suc}
 use lib.Dec.{eqb}
 use lib.IntN.{ℤ}
 use Rattle.language.specs.declared.Ending.the-variants.{Spent}
+use Rattle.language.specs.Letters.{letterIndex}
+use Rattle.language.specs.Roles.{stewardPermission, cashierRole, bars}
 use Rattle.language.specs.Machine.{Instruction, transfer, fail, operateAt, testAt, callAt, Decoded, last, damaged, code, decode}
 use Rattle.language.specs.Tables.{tableFrom, decodeAt, standsAt, barredAt, execute}
+use Rattle.book.specs.declared.Refusal.{Refusal}
+use Rattle.book.specs.Calls.{Run, runs}
+use Rattle.book.specs.Replies.{reported, tells}
+use Rattle.book.specs.Refusals.{isRefusal, refusal, answer}
+use Rattle.book.specs.Store.{Store, storeRan, storeAccepts, storeView, storeCall}
+use Rattle.book.specs.Events.{Event, asked}
+use Rattle.book.specs.Demand3.{Always}
+use Rattle.book.proofs.Refusals.{refusal-refuses, free-run}
+use Rattle.book.proofs.Demand3.{history, always, permissions-after}
 use Rattle.operands.specs.Loop.{Spot, Turn, continues, enters, finishes, halt, instructionTurn, decodedTurn}
 use Rattle.interpreter.specs.declared.cycle.Fetched.{Fetched}
-use Rattle.interpreter.specs.Fetching.{fetched, Progress, next, over, turnBy, proceeds, turnedOn, course, comesTo, startsAt, leaves, onTurn, goesOn}
-use Rattle.interpreter.specs.Claims.{PairStored, GoOnAlike, AnswersRemain, OnlyAllowed}
+use Rattle.interpreter.specs.Fetching.{fetched, Stand, Progress, next, over, turnBy, proceeds, turnedOn, course, comesTo, startsAt, leaves, onTurn, goesOn}
+use Rattle.interpreter.specs.Claims.{PairStored, GoOnAlike, turnsOf, AnswersRemain, ObeysNone}
 use Rattle.interpreter.proofs.Allowed.{Allowed, AllowedTurn, decoded-allowed}
 use Rattle.interpreter.proofs.Loop.{runAt, after, turn-run, Stays, decoded-stays}
 
@@ -100,10 +112,29 @@ module _ (c : List ℤ) (u k : List ℕ) (r : ℕ) where
   course-comes zero m = refl
   course-comes (suc j) m = on-comes (course c u k r j m) (course-paired c u k r j m) ∙ course-comes j m
 
+-- of any store, a run that is not refused: its letter is for its caller, and it answers what the table machine comes to
+record Accepted (st : Store) (x : Run) : Type 0 where
+  allowed : barredAt (st .permissions) (x .role) (letterIndex (x .letter)) ≡ false
+  reply : storeCall st (runs x) .reply ≡ storeRan st x
+
+not-refused : (st : Store) (x : Run) → isRefusal (storeCall st (runs x) .reply .report .number) ≡ false → Accepted st x
+unfolding storeCall
+not-refused st x h = go (refusal (storeView st) (runs x)) refl h
+  where
+    go : (o : Option Refusal) → refusal (storeView st) (runs x) ≡ o
+        → isRefusal (answer o st (st .variables) (runs x) (storeAccepts st (runs x)) .reply .report .number) ≡ false → Accepted st x
+    go (some r) e k = unfold answer tells in absurd (false≢true (sym k ∙ refusal-refuses r))
+    go none e k =
+        record {
+          allowed = free-run (storeView st) x e .allowed;
+          reply = unfold answer storeAccepts in ap (λ o. answer o st (st .variables) (runs x) (storeAccepts st (runs x)) .reply) e;
+        }
+
 -- the run comes to what the table machine comes to
 pub answers-remain : AnswersRemain
-unfolding course execute
-answers-remain c u k r a n v i o j = course-comes c u k r j _
+unfolding course execute storeRan
+answers-remain st x h n =
+    not-refused st x h .reply ∙ ap (reported (st .variables) (x .allowance)) (sym (course-comes (st .cells) (st .used) (st .permissions) (x .role) n _))
 
 -- ── letters that are for the caller ─────────────────────────────────────────────────────────────
 
@@ -130,7 +161,24 @@ module _ (c : List ℤ) (u k : List ℕ) (r : ℕ) where
   course-allowed zero m h = h
   course-allowed (suc n) m h = on-allowed (course c u k r n m) (course-allowed n m h)
 
--- before every mark the letter then obeyed is for the caller
-pub only-allowed : OnlyAllowed
-only-allowed c u k r a n v i o j s h e =
-    subst (AllowedProgress (barredAt k r)) e (course-allowed c u k r j (startsAt a n v i o) (record { letter = h; callers = tt })) .letter
+-- Of any store: before every mark the letter then obeyed is for the caller.
+only-allowed : (st : Store) (x : Run) (n : ℕ) (z : Stand) → barredAt (st .permissions) (x .role) (letterIndex (x .letter)) ≡ false → turnsOf st x n ≡ next z
+    → barredAt (st .permissions) (x .role) (z .spot .letter) ≡ false
+only-allowed st x n z h e =
+    subst (AllowedProgress (barredAt (st .permissions) (x .role))) e
+    (course-allowed (st .cells) (st .used) (st .permissions) (x .role) n
+    (startsAt (letterIndex (x .letter)) (x .allowance) (st .variables) (x .inputs) (x .output)) (record { letter = h; callers = tt })) .letter
+
+-- a letter that is not barred to a cashier is no steward's
+open-permission : (r k : ℕ) → r ≡ cashierRole → bars r k ≡ false → eqb k stewardPermission ≡ false
+unfolding bars
+open-permission r k e h = sym (ap (λ z. eqb z cashierRole && eqb k stewardPermission) e) ∙ h
+
+obeys-none-then : (es : List Event) → ObeysNone (history es)
+obeys-none-then es x h n z e =
+    let st = history es .store in
+    let k = only-allowed st x n z (not-refused st x (h .accepted) .allowed) e in
+    open-permission (x .role) _ (h .role) (ap (bars (x .role)) (sym (permissions-after es (z .spot .letter))) ∙ k)
+
+pub obeys-none : Always ObeysNone
+obeys-none = always ObeysNone obeys-none-then

@@ -22,7 +22,7 @@ use Rattle.operands.specs.Held.{Held, frameNumbers, stateOf, spotOf, endingOf, 
 use Rattle.operands.specs.Turns.{dueAt}
 use Rattle.operands.proofs.Held.{length-frames, ending-known, ending-high}
 use Rattle.interpreter.specs.declared.cycle.Fetched.{Fetched}
-use Rattle.interpreter.specs.Runs.{Counted, figuresOf, Driven}
+use Rattle.interpreter.specs.Runs.{Counted, reportFrom, Driven}
 use Rattle.interpreter.specs.Fetching.{fetched}
 use Rattle.interpreter.proofs.Cells.{decode-within}
 use Rattle.interpreter.proofs.Allowed.{Allowed, AllowedTurn, decoded-allowed}
@@ -31,9 +31,9 @@ use Rattle.interpreter.proofs.Loop.{after, oneTurn, toGo, Fit, Kept, So
 -- what the loop keeps of what the code holds: the run comes to r, within the allowance n, the limits and the output o, and over letters that are for the
 -- caller
 pub record Looping (n : ℕ) (o : List ℕ) (r : Outcome) (h : Held) : Type 0 where
-  pub comes : after (decodeAt (h .cells) (h .used)) (standsAt (h .used)) (barredAt (h .marks) (h .role)) (outcome h) ≡ r
+  pub comes : after (decodeAt (h .cells) (h .used)) (standsAt (h .used)) (barredAt (h .permissions) (h .role)) (outcome h) ≡ r
   pub kept : Kept n o (outcome h)
-  pub allowed : AllowedTurn (barredAt (h .marks) (h .role)) (outcome h)
+  pub allowed : AllowedTurn (barredAt (h .permissions) (h .role)) (outcome h)
   pub size : length (h .frames) ≡ frameNumbers
 
 -- the same where the code does not go on: it enters a letter's code, or the run is over
@@ -57,9 +57,9 @@ pub resume : (n : ℕ) (o : List ℕ) (r : Outcome) (h : Held) → Looping n o r
 unfolding after
 resume n o r h loop e =
     record {
-      comes = sym (ap (λ (t : Turn). after (decodeAt (h .cells) (h .used)) (standsAt (h .used)) (barredAt (h .marks) (h .role)) t) (entering h e)) ∙ loop .comes;
+      comes = sym (ap (λ (t : Turn). after (decodeAt (h .cells) (h .used)) (standsAt (h .used)) (barredAt (h .permissions) (h .role)) t) (entering h e)) ∙ loop .comes;
       kept = subst (λ (t : Turn). Kept n o t) (entering h e) (loop .kept);
-      allowed = subst (λ (t : Turn). AllowedTurn (barredAt (h .marks) (h .role)) t) (entering h e) (loop .allowed);
+      allowed = subst (λ (t : Turn). AllowedTurn (barredAt (h .permissions) (h .role)) t) (entering h e) (loop .allowed);
       size = loop .size;
     }
 
@@ -74,8 +74,8 @@ pub fit-of : (n : ℕ) (o : List ℕ) (h : Held) → h .machine .state ≡ 0 →
 fit-of n o h e k = subst (λ (t : Turn). Kept n o t) (going h e) k
 
 -- and its letter is for the caller
-pub allowed-of : (n : ℕ) (o : List ℕ) (r : Outcome) (h : Held) → Looping n o r h → h .machine .state ≡ 0 → Allowed (barredAt (h .marks) (h .role)) (spotOf h)
-allowed-of n o r h loop e = subst (λ (t : Turn). AllowedTurn (barredAt (h .marks) (h .role)) t) (going h e) (loop .allowed)
+pub allowed-of : (n : ℕ) (o : List ℕ) (r : Outcome) (h : Held) → Looping n o r h → h .machine .state ≡ 0 → Allowed (barredAt (h .permissions) (h .role)) (spotOf h)
+allowed-of n o r h loop e = subst (λ (t : Turn). AllowedTurn (barredAt (h .permissions) (h .role)) t) (going h e) (loop .allowed)
 
 beyond : (u : List ℕ) (a : ℕ) → length u ≤ a → getD u a 0 ≡ 0
 beyond [] a h = refl
@@ -111,39 +111,39 @@ module _ (n : ℕ) (o : List ℕ) (r : Outcome) (h : Held) (h′ : Held) (p : Fe
     (pair : p ≡ fetched (h .used) (h .machine .letter)) (turned-by : outcome h′ ≡ dueAt (h .cells) (p .base) (p .end) h)
     (letters : length (h .used) ≡ maxLetters) (counted : Counted (h .used)) where
   -- over the pair of the letter's table, it is the table machine's turn
-  turned : outcome h′ ≡ oneTurn (decodeAt (h .cells) (h .used)) (standsAt (h .used)) (barredAt (h .marks) (h .role)) (spotOf h)
+  turned : outcome h′ ≡ oneTurn (decodeAt (h .cells) (h .used)) (standsAt (h .used)) (barredAt (h .permissions) (h .role)) (spotOf h)
   turned = turned-by ∙ ap (λ (x : Fetched). dueAt (h .cells) (x .base) (x .end) h) pair
 
   -- the letter is the same where the code goes on, so the pair is its
   pub same-pair : h′ .machine .state ≡ 0 → p ≡ fetched (h .used) (h′ .machine .letter)
   same-pair e =
       let d = decodeAt (h .cells) (h .used) (h .machine .letter) (h .machine .at) in
-      let k : h′ .machine .letter ≡ h .machine .letter = subst (λ (t : Turn). Stays (h .machine .letter) t) (sym turned ∙ going h′ e) (decoded-stays (standsAt (h .used)) (barredAt (h .marks) (h .role)) d (spotOf h)) in
+      let k : h′ .machine .letter ≡ h .machine .letter = subst (λ (t : Turn). Stays (h .machine .letter) t) (sym turned ∙ going h′ e) (decoded-stays (standsAt (h .used)) (barredAt (h .permissions) (h .role)) d (spotOf h)) in
       pair ∙ ap (fetched (h .used)) (sym k)
 
-  comes-again : after (decodeAt (h .cells) (h .used)) (standsAt (h .used)) (barredAt (h .marks) (h .role)) (outcome h′) ≡ r
+  comes-again : after (decodeAt (h .cells) (h .used)) (standsAt (h .used)) (barredAt (h .permissions) (h .role)) (outcome h′) ≡ r
   unfolding after
   comes-again =
       let f = decodeAt (h .cells) (h .used) in
       let s = standsAt (h .used) in
-      let b = barredAt (h .marks) (h .role) in
+      let b = barredAt (h .permissions) (h .role) in
       ap (λ (t : Turn). after f s b t) turned ∙ sym (turn-run f s b (spotOf h)) ∙ sym (ap (λ (t : Turn). after f s b t) (going h goes)) ∙ loop .comes
 
   sound : Sound n o (toGo (spotOf h)) (outcome h′)
   sound =
       subst (λ (t : Turn). Sound n o (toGo (spotOf h)) t) (sym turned)
-      (decoded-sound n o (standsAt (h .used)) (barredAt (h .marks) (h .role)) (standing (h .used) letters) (decodeAt (h .cells) (h .used) (h .machine .letter) (h .machine .at)) (spotOf h)
+      (decoded-sound n o (standsAt (h .used)) (barredAt (h .permissions) (h .role)) (standing (h .used) letters) (decodeAt (h .cells) (h .used) (h .machine .letter) (h .machine .at)) (spotOf h)
       (decode-within _ (counted (h .machine .letter)) (h .machine .at)) (fit-of n o h goes (loop .kept)))
 
   -- the letter is for the caller, and so is the next
-  allowed-again : AllowedTurn (barredAt (h .marks) (h .role)) (outcome h′)
+  allowed-again : AllowedTurn (barredAt (h .permissions) (h .role)) (outcome h′)
   allowed-again =
-      subst (λ (t : Turn). AllowedTurn (barredAt (h .marks) (h .role)) t) (sym turned)
-      (decoded-allowed (barredAt (h .marks) (h .role)) (standsAt (h .used)) (decodeAt (h .cells) (h .used) (h .machine .letter) (h .machine .at)) (spotOf h)
+      subst (λ (t : Turn). AllowedTurn (barredAt (h .permissions) (h .role)) t) (sym turned)
+      (decoded-allowed (barredAt (h .permissions) (h .role)) (standsAt (h .used)) (decodeAt (h .cells) (h .used) (h .machine .letter) (h .machine .at)) (spotOf h)
       (allowed-of n o r h loop goes))
 
   -- it is kept
-  pub again : h′ .cells ≡ h .cells → h′ .used ≡ h .used → h′ .marks ≡ h .marks → h′ .role ≡ h .role → length (h′ .frames) ≡ frameNumbers → Looping n o r h′
+  pub again : h′ .cells ≡ h .cells → h′ .used ≡ h .used → h′ .permissions ≡ h .permissions → h′ .role ≡ h .role → length (h′ .frames) ≡ frameNumbers → Looping n o r h′
   again c u k w f =
       record {
         comes = rw (c, u, k, w) comes-again;
@@ -183,7 +183,7 @@ stretch-none h p z e = record { keeps = λ n o r l. l; pair = λ _. e; most = le
 -- and after one more turn
 pub stretch-more : (n : ℕ) (o : List ℕ) (r : Outcome) (h₀ : Held) (p : Fetched) (h h′ : Held) → Stretch h₀ p h → Looping n o r h → h .machine .state ≡ 0
     → outcome h′ ≡ dueAt (h .cells) (p .base) (p .end) h → length (h .used) ≡ maxLetters → Counted (h .used)
-    → h′ .cells ≡ h .cells → h′ .used ≡ h .used → h′ .marks ≡ h .marks → h′ .role ≡ h .role → length (h′ .frames) ≡ frameNumbers → Stretch h₀ p h′
+    → h′ .cells ≡ h .cells → h′ .used ≡ h .used → h′ .permissions ≡ h .permissions → h′ .role ≡ h .role → length (h′ .frames) ≡ frameNumbers → Stretch h₀ p h′
 stretch-more n o r h₀ p h h′ st loop z turned letters counted c u k w f =
     let e = st .pair z in
     let l = falls n o r h h′ p loop z e turned letters counted in
@@ -244,15 +244,15 @@ module _ (n : ℕ) (o : List ℕ) (r : Outcome) (h : Held) (loop : Looping n o r
       go false e = omega (arith, ltb-false 2 (h .machine .state) e)
 
   reply : (v : List ℤ)
-      → replied (figuresOf n (h .machine)) (h .stack) (h .output) (cond (ltb 2 (h .machine .state)) v (h .variables)) ≡ reported v n r
+      → replied (reportFrom n (h .machine)) (h .stack) (h .output) (cond (ltb 2 (h .machine .state)) v (h .variables)) ≡ reported v n r
   unfolding after reported
   reply v =
       go (eqb (h .machine .state) 1) (eqb (h .machine .state) 2) refl refl
-      ∙ ap (λ (x : Outcome). reported v n x) (sym (ap (λ (t : Turn). after (decodeAt (h .cells) (h .used)) (standsAt (h .used)) (barredAt (h .marks) (h .role)) t) ended-as) ∙ loop .comes)
+      ∙ ap (λ (x : Outcome). reported v n x) (sym (ap (λ (t : Turn). after (decodeAt (h .cells) (h .used)) (standsAt (h .used)) (barredAt (h .permissions) (h .role)) t) ended-as) ∙ loop .comes)
     where
       go : (a b : Bool) → eqb (h .machine .state) 1 ≡ a → eqb (h .machine .state) 2 ≡ b
-          → replied (figuresOf n (h .machine)) (h .stack) (h .output) (cond (ltb 2 (h .machine .state)) v (h .variables))
-          ≡ reported v n (after (decodeAt (h .cells) (h .used)) (standsAt (h .used)) (barredAt (h .marks) (h .role)) (ending a b))
+          → replied (reportFrom n (h .machine)) (h .stack) (h .output) (cond (ltb 2 (h .machine .state)) v (h .variables))
+          ≡ reported v n (after (decodeAt (h .cells) (h .used)) (standsAt (h .used)) (barredAt (h .permissions) (h .role)) (ending a b))
       go true b p q = let k : h .machine .state ≡ 1 = eqb-true _ _ p in rw k
       go false true p q = let k : h .machine .state ≡ 2 = eqb-true _ _ q in rw k
       go false false p q =

@@ -39,8 +39,8 @@ abbrev pub ran : List ℤ → List ℕ → List ℕ → ℕ → ℕ → ℕ → 
 ran c u k r a n v i o = execute c u k r a n (start v i o)
 
 -- the figures that the machine's numbers come to once its state is not 0, after an allowance of n
-abbrev pub figuresOf : ℕ → Machine → Report
-figuresOf n m =
+abbrev pub reportFrom : ℕ → Machine → Report
+reportFrom n m =
     record {
       number = cond (ltb 2 (m .state)) (m .state) 0;
       truth = eqb (m .state) 1;
@@ -60,4 +60,4 @@ pub record Over (n : ℕ) (m : Machine) : Type 0 where
 pub record Driven (n : ℕ) (r : Outcome) (m : Machine) (w p : List ℤ) (o : List ℕ) : Type 0 where
   pub over : Over n m
   pub reply : (v : List ℤ)
-      → replied (figuresOf n m) p o (cond (ltb 2 (m .state)) v w) ≡ reported v n r
+      → replied (reportFrom n m) p o (cond (ltb 2 (m .state)) v w) ≡ reported v n r

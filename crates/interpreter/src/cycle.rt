@@ -4,7 +4,7 @@ ghost use Prim.Native.Nat.{_<_};
 ghost use Rattle.language.specs.Limits.{maxLetters};
 ghost use Rattle.operands.specs.Held.{held};
 ghost use Rattle.dispatch.specs.Turning.{Turned};
-ghost use Rattle.interpreter.specs.Runs.{Startable, Filling, Over, Driven, figuresOf, ran};
+ghost use Rattle.interpreter.specs.Runs.{Startable, Filling, Over, Driven, reportFrom, ran};
 ghost use Rattle.interpreter.specs.Fetching.{fetched, Obeying};
 use book::Report;
 use dispatch::machine::turn;
@@ -51,7 +51,7 @@ fn obey<'a>(
     m: Machine,
     cells: &'a [i32; STORE_CELLS],
     used: &'a [usize; LETTERS],
-    marks: &'a [u32; LETTERS],
+    permissions: &'a [u32; LETTERS],
     role: u32,
     pair: Fetched,
     inputs: &[i32],
@@ -61,18 +61,18 @@ fn obey<'a>(
     list: &mut [i32; HEIGHT],
     output: &mut [u8],
 ) -> Machine
-    requires { ⌜ Obeying (now used) (now marks) role pair m (now frames) (now output) ⌝ }
+    requires { ⌜ Obeying (now used) (now permissions) role pair m (now frames) (now output) ⌝ }
     ensures { λ r. ⌜ Turned (pair .base) (pair .end)
-        (held m (now (cells .entry)) (now (used .entry)) (now (marks .entry)) role (now (inputs .entry)) (now (frames .entry)) (now (counts .entry))
+        (held m (now (cells .entry)) (now (used .entry)) (now (permissions .entry)) role (now (inputs .entry)) (now (frames .entry)) (now (counts .entry))
         (now (vars .entry)) (now (list .entry)) (now (output .entry)))
-        (held r (now (cells .entry)) (now (used .entry)) (now (marks .entry)) role (now (inputs .entry)) (now (frames .exit)) (now (counts .exit))
+        (held r (now (cells .entry)) (now (used .entry)) (now (permissions .entry)) role (now (inputs .entry)) (now (frames .exit)) (now (counts .exit))
         (now (vars .exit)) (now (list .exit)) (now (output .exit))) ⌝ }
 {
     turn(
         m,
         cells,
         used,
-        marks,
+        permissions,
         role,
         pair.base,
         pair.end,
@@ -90,7 +90,7 @@ fn obey<'a>(
 pub fn drive<'a>(
     cells: &'a [i32; STORE_CELLS],
     used: &'a [usize; LETTERS],
-    marks: &'a [u32; LETTERS],
+    permissions: &'a [u32; LETTERS],
     role: u32,
     inputs: &[i32],
     letter: usize,
@@ -99,9 +99,9 @@ pub fn drive<'a>(
     list: &mut [i32],
     output: &mut [u8],
 ) -> Machine
-    requires { ⌜ Startable letter (now used) (now marks) role (now list) ⌝ }
+    requires { ⌜ Startable letter (now used) (now permissions) role (now list) ⌝ }
     ensures { λ r. ⌜ Driven allowance
-        (ran (now (cells .entry)) (now (used .entry)) (now (marks .entry)) role letter allowance (now (vars .entry)) (now (inputs .entry)) (now (output .entry)))
+        (ran (now (cells .entry)) (now (used .entry)) (now (permissions .entry)) role letter allowance (now (vars .entry)) (now (inputs .entry)) (now (output .entry)))
         r (now (vars .exit)) (now (list .exit)) (now (output .exit)) ⌝ }
 {
     let mut frames = [0u32; FRAMES];
@@ -125,7 +125,7 @@ pub fn drive<'a>(
                 m,
                 cells,
                 used,
-                marks,
+                permissions,
                 role,
                 pair,
                 inputs,
@@ -142,9 +142,9 @@ pub fn drive<'a>(
 }
 
 // The figures of a run that is over.
-pub fn figures(m: Machine, allowance: u32) -> Report
+pub fn report(m: Machine, allowance: u32) -> Report
     requires { ⌜ Over allowance m ⌝ }
-    ensures { λ r. ⌜ r ≡ figuresOf allowance m ⌝ }
+    ensures { λ r. ⌜ r ≡ reportFrom allowance m ⌝ }
 {
     let steps = ((allowance as usize) - m.left) as u32;
     if Machine::FALSE < m.state {

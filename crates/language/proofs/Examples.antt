@@ -7,12 +7,12 @@ use Rattle.language.specs.Money.{readMoney}
 use Rattle.language.specs.Effects.{start, perform, ask}
 use Rattle.language.specs.Meaning.{meaning}
 use Rattle.language.specs.Machine.{decode, arrive, run}
-use Rattle.language.specs.Trials.{textAt, markIn, Hold}
+use Rattle.language.specs.Trials.{textAt, permissionIn, Hold}
 use Rattle.language.specs.Examples.{starred, faults, limits, layouts, decodings, effects, slips, control, stops, guardings}
 
 -- document 01's starred examples
 pub starred-hold : Hold starred
-unfolding read textAt markIn start isValue perform ask bars meaning decode arrive run
+unfolding read textAt permissionIn start isValue perform ask bars meaning decode arrive run
 starred-hold = refl
 
 pub faults-hold : Hold faults
@@ -32,7 +32,7 @@ unfolding decode
 decodings-hold = refl
 
 pub effects-hold : Hold effects
-unfolding read textAt markIn start isValue perform ask bars meaning decode arrive run
+unfolding read textAt permissionIn start isValue perform ask bars meaning decode arrive run
 effects-hold = refl
 
 pub slips-hold : Hold slips
@@ -40,13 +40,13 @@ unfolding readMoney
 slips-hold = refl
 
 pub control-hold : Hold control
-unfolding read textAt markIn start isValue perform ask bars meaning decode arrive run
+unfolding read textAt permissionIn start isValue perform ask bars meaning decode arrive run
 control-hold = refl
 
 pub stops-hold : Hold stops
-unfolding read textAt markIn start isValue perform ask bars meaning decode arrive run
+unfolding read textAt permissionIn start isValue perform ask bars meaning decode arrive run
 stops-hold = refl
 
 pub guardings-hold : Hold guardings
-unfolding read textAt markIn start isValue perform ask bars meaning decode arrive run
+unfolding read textAt permissionIn start isValue perform ask bars meaning decode arrive run
 guardings-hold = refl

@@ -78,10 +78,10 @@ module _ (at : ℕ → ℕ → Decoded) (stands : ℕ → Bool) where
   Stands a none = stands a ≡ false
   Stands a (some w) = (stands a ≡ true) × Decodes (at a) w 2 (usedCells w) outermost 2 × (at a (usedCells w) ≡ last)
 
-module _ (texts : ℕ → Option Expr) (marks : ℕ → ℕ) (role : ℕ) (at : ℕ → ℕ → Decoded) (stands : ℕ → Bool) where
+module _ (texts : ℕ → Option Expr) (permissions : ℕ → ℕ) (role : ℕ) (at : ℕ → ℕ → Decoded) (stands : ℕ → Bool) where
   -- the letters that are not for the caller
   abbrev barred : ℕ → Bool
-  barred a = bars role (marks a)
+  barred a = bars role (permissions a)
 
   -- where an expression whose `)` cell says c, and is followed by cell x, leaves the machine
   abbrev leave : Bool → Closing → List Frame → ℕ → ℕ → Due
@@ -147,7 +147,7 @@ module _ (texts : ℕ → Option Expr) (marks : ℕ → ℕ) (role : ℕ) (at : 
     module _ (n : ℕ) (again : ℕ → Expr → ℕ → State → ℕ → Outcome) (ih : Again n again) where
       follow-sim : (e : Expr) (t : Bool) (l : ℕ) (w : Expr) (fr : List Frame) (s : State) (r h x : ℕ) (c : Closing) (q : ℕ)
           → r ≤ n → Decodes (at l) w h x c h → Decodes (at l) e h x c q
-          → Rel n (exit c fr l x) (follow texts marks role again l w (length fr) e t s r)
+          → Rel n (exit c fr l x) (follow texts permissions role again l w (length fr) e t s r)
           (run at stands barred r (arrive at stands barred fr l (pick t q (falseExit e q))) s)
       unfolding follow pick turn Again
       follow-sim close true l w fr s r h x c q le wh st =
@@ -160,32 +160,32 @@ module _ (texts : ℕ → Option Expr) (marks : ℕ → ℕ) (role : ℕ) (at : 
           (λ r′ lt. ih l w fr s r′ h x c lt wh)
       follow-sim (operate o e) true l w fr s r h x c q le wh st =
           rel-at n (exit c fr l x) l q (operateAt o (afterOperation o q)) fr r s
-          (λ r′. onEffect (perform o s) s (suc r′) (λ s′. follow texts marks role again l w (length fr) e true s′ r′)) (st .0) le
+          (λ r′. onEffect (perform o s) s (suc r′) (λ s′. follow texts permissions role again l w (length fr) e true s′ r′)) (st .0) le
           (λ r′ lt. rel-effect n (exit c fr l x) (perform o s) s (suc r′) _ _
           (λ s′. follow-sim e true l w fr s′ r′ h x c (afterOperation o q) (omega arith) wh (st .1)))
       follow-sim (test p e) true l w fr s r h x c q le wh st =
           rel-at n (exit c fr l x) l q (testAt p (afterPredicate p q) (falseExit e (afterPredicate p q))) fr r s
-          (λ r′. onVerdict (ask l p s) s (suc r′) (λ t s′. follow texts marks role again l w (length fr) e t s′ r′)) (st .0) le
+          (λ r′. onVerdict (ask l p s) s (suc r′) (λ t s′. follow texts permissions role again l w (length fr) e t s′ r′)) (st .0) le
           (λ r′ lt. rel-verdict n (exit c fr l x) (ask l p s) s (suc r′) _ _
           (λ t s′. follow-sim e t l w fr s′ r′ h x c (afterPredicate p q) (omega arith) wh (st .1)))
       follow-sim (call a e) true l w fr s r h x c q le wh st =
           let f : Frame = record { letter = l; next = afterCall q; exit = falseExit e (afterCall q) } in
           rel-at n (exit c fr l x) l q (callAt a (afterCall q) (falseExit e (afterCall q))) fr r s
-          (λ r′. onCall (texts a) (bars role (marks a)) (length fr) (λ e. stopped e s (suc r′))
-          (λ v. andThen (again a v (suc (length fr)) s r′) (λ t s′ r″. follow texts marks role again l w (length fr) e t s′ r″)))
+          (λ r′. onCall (texts a) (bars role (permissions a)) (length fr) (λ e. stopped e s (suc r′))
+          (λ v. andThen (again a v (suc (length fr)) s r′) (λ t s′ r″. follow texts permissions role again l w (length fr) e t s′ r″)))
           (st .0) le
           (λ r′ lt. rel-call n (exit c fr l x) a (texts a) (barred a) (length fr) s (suc r′) _ _ (tables a)
           (λ v sv ev. rel-andThen n (exit c fr l x) (exit outermost (f ∷ fr) a (usedCells v)) _ _ _
           (ih a v (f ∷ fr) s r′ 2 (usedCells v) outermost lt sv)
-          (λ t s′ r″ le″. subst (λ z. Rel n (exit c fr l x) (follow texts marks role again l w (length fr) e t s′ r″) (run at stands barred r″ z s′))
+          (λ t s′ r″ le″. subst (λ z. Rel n (exit c fr l x) (follow texts permissions role again l w (length fr) e t s′ r″) (run at stands barred r″ z s′))
           (leave-call t f fr a (usedCells v) ev)
           (follow-sim e t l w fr s′ r″ h x c (afterCall q) le″ wh (st .1)))))
       follow-sim (inner g e) true l w fr s r h x c q le wh st =
           let f : ℕ = falseExit e (afterExpr g q) in
-          rel-andThen n (exit c fr l x) (exit (exitTo f) fr l (afterExpr g q)) (follow texts marks role again l g (length fr) g true s r) _
-          (λ t s′ r′. follow texts marks role again l w (length fr) e t s′ r′)
+          rel-andThen n (exit c fr l x) (exit (exitTo f) fr l (afterExpr g q)) (follow texts permissions role again l g (length fr) g true s r) _
+          (λ t s′ r′. follow texts permissions role again l w (length fr) e t s′ r′)
           (follow-sim g true l g fr s r q (afterExpr g q) (exitTo f) q le (st .0) (st .0))
-          (λ t s′ r′ le′. subst (λ z. Rel n (exit c fr l x) (follow texts marks role again l w (length fr) e t s′ r′) (run at stands barred r′ z s′))
+          (λ t s′ r′ le′. subst (λ z. Rel n (exit c fr l x) (follow texts permissions role again l w (length fr) e t s′ r′) (run at stands barred r′ z s′))
           (leave-to t f fr l (afterExpr g q))
           (follow-sim e t l w fr s′ r′ h x c (afterExpr g q) le′ wh (st .1)))
       follow-sim close false l w fr s r h x c q le wh st =
@@ -197,12 +197,12 @@ module _ (texts : ℕ → Option Expr) (marks : ℕ → ℕ) (role : ℕ) (at : 
       follow-sim (call a e) false l w fr s r h x c q le wh st = follow-sim e false l w fr s r h x c (afterCall q) le wh (st .1)
       follow-sim (inner g e) false l w fr s r h x c q le wh st = follow-sim e false l w fr s r h x c (afterExpr g q) le wh (st .1)
 
-    followed-sim : (g : ℕ) → Again g (followed texts marks role g)
+    followed-sim : (g : ℕ) → Again g (followed texts permissions role g)
     unfolding Again followed pick
     followed-sim zero l w fr s r h x c lt st = let z : ⊥ = omega arith in absurd z
     followed-sim (suc g) l w fr s r h x c lt st =
         rel-weaken g (suc g) (exit c fr l x) _ _ (omega arith)
-        (follow-sim g (followed texts marks role g) (followed-sim g) w true l w fr s r h x c h (omega arith) st st)
+        (follow-sim g (followed texts permissions role g) (followed-sim g) w true l w fr s r h x c h (omega arith) st st)
 
     run-over : (t : Bool) (s : State) (r : ℕ) → run at stands barred r (over t) s ≡ ended t s r
     unfolding run
@@ -216,11 +216,11 @@ module _ (texts : ℕ → Option Expr) (marks : ℕ → ℕ) (role : ℕ) (at : 
 
     -- The run of a letter that stands barred is the meaning of its text, for any bound g above the allowance n.
     pub run-meaning : (g a : ℕ) (w : Expr) (s : State) (n : ℕ) → texts a ≡ some w → n < g
-        → meaning texts marks role g a w 0 s n ≡ run at stands barred n (arrive at stands barred [] a 2) s
+        → meaning texts permissions role g a w 0 s n ≡ run at stands barred n (arrive at stands barred [] a 2) s
     unfolding Again
     run-meaning g a w s n e lt =
         let st : Stands at stands a (some w) = subst (λ z. Stands at stands a z) e (tables a) in
-        meaning-followed texts marks role g a w 0 s n
+        meaning-followed texts permissions role g a w 0 s n
         ∙ rel-all g (exit outermost [] a (usedCells w)) _ _
         (λ t s′ r. ap (λ z. run at stands barred r z s′) (leave-run t a (usedCells w) (st .2)) ∙ run-over t s′ r)
         (followed-sim g a w [] s n 2 (usedCells w) outermost lt (st .1))

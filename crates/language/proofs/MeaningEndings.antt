@@ -113,7 +113,7 @@ StopsSo P (stopped e s r) = P e
 
 -- Of endings P and letters R: the common endings have P, the calls of a text whose letter has R are of letters that have it, and where one of these
 -- letters has no text, 27 has P.
-module _ (P : Ending → Type 0) (R : ℕ → Type 0) (texts : ℕ → Option Expr) (marks : ℕ → ℕ) (role : ℕ)
+module _ (P : Ending → Type 0) (R : ℕ → Type 0) (texts : ℕ → Option Expr) (permissions : ℕ → ℕ) (role : ℕ)
     (common : (e : Ending) → Common e ≡ true → P e)
     (closed : (a : ℕ) (w : Expr) → R a → texts a ≡ some w → AllCalls R w)
     (absent : (a : ℕ) → R a → texts a ≡ none → P NoText) where
@@ -153,7 +153,7 @@ module _ (P : Ending → Type 0) (R : ℕ → Type 0) (texts : ℕ → Option Ex
 
   stops-follow : (again : ℕ → Expr → ℕ → State → ℕ → Outcome)
       → ((l : ℕ) (w : Expr) (d : ℕ) (s : State) (r : ℕ) → AllCalls R w → StopsSo P (again l w d s r))
-      → (e : Expr) (t : Bool) (l : ℕ) (w : Expr) (d : ℕ) (s : State) (r : ℕ) → AllCalls R w → AllCalls R e → StopsSo P (follow texts marks role again l w d e t s r)
+      → (e : Expr) (t : Bool) (l : ℕ) (w : Expr) (d : ℕ) (s : State) (r : ℕ) → AllCalls R w → AllCalls R e → StopsSo P (follow texts permissions role again l w d e t s r)
   unfolding follow
   stops-follow again h close true l w d s r cw ce = stops-step r s (λ r′. ended false s r′) (λ r′. tt)
   stops-follow again h (semi e) true l w d s r cw ce = stops-step r s (λ r′. ended true s r′) (λ r′. tt)
@@ -163,10 +163,10 @@ module _ (P : Ending → Type 0) (R : ℕ → Type 0) (texts : ℕ → Option Ex
   stops-follow again h (test p e) true l w d s r cw ce =
       stops-step r s _ (λ r′. stops-verdict (ask l p s) s (suc r′) _ (proper-asked l p s) (λ t s′. stops-follow again h e t l w d s′ r′ cw ce))
   stops-follow again h (call a e) true l w d s r cw ce =
-      stops-step r s _ (λ r′. stops-call a (texts a) (bars role (marks a)) d s (suc r′) _ (ce .0) refl
+      stops-step r s _ (λ r′. stops-call a (texts a) (bars role (permissions a)) d s (suc r′) _ (ce .0) refl
       (λ v cv. stops-then (again a v (suc d) s r′) _ (h a v (suc d) s r′ cv) (λ t s′ r″. stops-follow again h e t l w d s′ r″ cw (ce .1))))
   stops-follow again h (inner f e) true l w d s r cw ce =
-      stops-then (follow texts marks role again l f d f true s r) _ (stops-follow again h f true l f d s r (ce .0) (ce .0))
+      stops-then (follow texts permissions role again l f d f true s r) _ (stops-follow again h f true l f d s r (ce .0) (ce .0))
       (λ t s′ r′. stops-follow again h e t l w d s′ r′ cw (ce .1))
   stops-follow again h close false l w d s r cw ce = tt
   stops-follow again h (semi e) false l w d s r cw ce = stops-follow again h e true l w d s r cw ce
@@ -176,15 +176,15 @@ module _ (P : Ending → Type 0) (R : ℕ → Type 0) (texts : ℕ → Option Ex
   stops-follow again h (call a e) false l w d s r cw ce = stops-follow again h e false l w d s r cw (ce .1)
   stops-follow again h (inner f e) false l w d s r cw ce = stops-follow again h e false l w d s r cw (ce .1)
 
-  stops-followed : (g l : ℕ) (w : Expr) (d : ℕ) (s : State) (r : ℕ) → AllCalls R w → StopsSo P (followed texts marks role g l w d s r)
+  stops-followed : (g l : ℕ) (w : Expr) (d : ℕ) (s : State) (r : ℕ) → AllCalls R w → StopsSo P (followed texts permissions role g l w d s r)
   unfolding followed
   stops-followed zero l w d s r cw = common Spent refl
   stops-followed (suc g) l w d s r cw =
-      stops-follow (followed texts marks role g) (λ l′ w′ d′ s′ r′ c′. stops-followed g l′ w′ d′ s′ r′ c′) w true l w d s r cw cw
+      stops-follow (followed texts permissions role g) (λ l′ w′ d′ s′ r′ c′. stops-followed g l′ w′ d′ s′ r′ c′) w true l w d s r cw cw
 
   -- The nested meaning of an expression that calls such letters ends, or stops with such an ending.
-  pub stops-meaning : (g l : ℕ) (w : Expr) (d : ℕ) (s : State) (r : ℕ) → AllCalls R w → StopsSo P (meaning texts marks role g l w d s r)
-  stops-meaning g l w d s r cw = subst (StopsSo P) (sym (meaning-followed texts marks role g l w d s r)) (stops-followed g l w d s r cw)
+  pub stops-meaning : (g l : ℕ) (w : Expr) (d : ℕ) (s : State) (r : ℕ) → AllCalls R w → StopsSo P (meaning texts permissions role g l w d s r)
+  stops-meaning g l w d s r cw = subst (StopsSo P) (sym (meaning-followed texts permissions role g l w d s r)) (stops-followed g l w d s r cw)
 
 -- ── 20 to 28, and 34 ────────────────────────────────────────────────────────────────────────────────
 
@@ -214,6 +214,6 @@ common-proper e h = go (eqb (endingNumber e) 27) h
     go false z = z
 
 -- the nested meaning ends, or stops with 20 to 28 or 34
-pub proper-meaning : (texts : ℕ → Option Expr) (marks : ℕ → ℕ) (role g l : ℕ) (w : Expr) (d : ℕ) (s : State) (r : ℕ) → ProperOutcome (meaning texts marks role g l w d s r)
-proper-meaning texts marks role g l w d s r =
-    stops-meaning Proper (λ _. Unit {0}) texts marks role common-proper (λ a v h e. any-calls v) (λ a h e. refl) g l w d s r (any-calls w)
+pub proper-meaning : (texts : ℕ → Option Expr) (permissions : ℕ → ℕ) (role g l : ℕ) (w : Expr) (d : ℕ) (s : State) (r : ℕ) → ProperOutcome (meaning texts permissions role g l w d s r)
+proper-meaning texts permissions role g l w d s r =
+    stops-meaning Proper (λ _. Unit {0}) texts permissions role common-proper (λ a v h e. any-calls v) (λ a h e. refl) g l w d s r (any-calls w)

@@ -8,9 +8,9 @@ use mathlib.Core.List.{List, [], _∷_, _++_, reverse, append-nil}
 use lib.ListN.{length, getD, length-append}
 use lib.Dec.{leb, ltb, eqb}
 use borrow.Author.Tests.{leb-true, leb-false, le-leb, lt-leb}
-use Rattle.language.specs.declared.Refusal.{Refusal}
-use Rattle.language.specs.declared.Refusal.the-variants.{LongText, StrayMark, Deep, BadCounter, Unfinished, TableFull, ManyCounters}
-use Rattle.language.specs.Answers.{refusalNumber}
+use Rattle.language.specs.declared.Fault.{Fault}
+use Rattle.language.specs.declared.Fault.the-variants.{LongText, StrayMark, Deep, BadCounter, Unfinished, TableFull, ManyCounters}
+use Rattle.language.specs.Answers.{faultNumber}
 use Rattle.language.specs.Limits.{maxText, maxLevels, maxCells, maxCounters}
 use Rattle.language.specs.Between.{between}
 use Rattle.language.specs.Bytes.{digitByte, isDigit, minusByte, quoteByte, slashByte, tickByte}
@@ -26,10 +26,6 @@ use Rattle.language.specs.Statements.{NotYet, FaultAt, ofByte, FirstFaul
 use Rattle.language.proofs.Tests.{first-true, second-true}
 use Rattle.language.proofs.ReadingParsing.{not-accepted}
 use Rattle.language.proofs.Grammar.{reading-sound, reading-complete}
-
--- the number of a byte at fault: one of a text's, 2 to 9, and neither 2 nor 7
-abbrev spoils : Refusal → Bool
-spoils r = ofByte r && between 2 9 (refusalNumber r)
 
 -- ── a byte in the lexer ─────────────────────────────────────────────────────────────────────────
 
@@ -51,13 +47,13 @@ Plain (faults r ∷ l) = ⊥
 -- A byte, as a function of the tokens after it, gives plain tokens and goes on from a mode, or breaks a form.
 data Lexed (x : (Mode → List Token) → List Token) : Type 0 where
   emits : (ts : List Token) (m : Mode) → Plain ts → ((k : Mode → List Token) → x k ≡ ts ++ k m) → Lexed x
-  breaks : (r : Refusal) → spoils r ≡ true → ((k : Mode → List Token) → x k ≡ fault r) → Lexed x
+  breaks : (r : Fault) → ofByte r ≡ true → ((k : Mode → List Token) → x k ≡ fault r) → Lexed x
 
-form-byte : (f : Form) → spoils (formFault f) ≡ true
+form-byte : (f : Form) → ofByte (formFault f) ≡ true
 form-byte counterForm = refl
 form-byte (constantForm s) = refl
 
-lex-unless : (u : Bool) (r : Refusal) (x : (Mode → List Token) → List Token) → spoils r ≡ true → Lexed x → Lexed (λ k. unless u r (λ _. x k))
+lex-unless : (u : Bool) (r : Fault) (x : (Mode → List Token) → List Token) → ofByte r ≡ true → Lexed x → Lexed (λ k. unless u r (λ _. x k))
 unfolding unless
 lex-unless true r x h l = l
 lex-unless false r x h l = breaks r h (λ k. refl)
@@ -135,9 +131,9 @@ lex-byte (printing l) b = lex-printed (eqb b tickByte) (printByte b) b l
 -- Tokens, as a function of those after them, take the parser to a place or refuse the text.
 data Parsed (y : List Token → Reading) : Type 0 where
   moves : (p : Place) → ((l : List Token) → y l ≡ parse l p) → Parsed y
-  refuses : (r : Refusal) → spoils r ≡ true → ((l : List Token) → y l ≡ refused r) → Parsed y
+  refuses : (r : Fault) → ofByte r ≡ true → ((l : List Token) → y l ≡ refused r) → Parsed y
 
-parse-require : (u : Bool) (r : Refusal) (y : List Token → Reading) → spoils r ≡ true → Parsed y → Parsed (λ l. require u r (λ _. y l))
+parse-require : (u : Bool) (r : Fault) (y : List Token → Reading) → ofByte r ≡ true → Parsed y → Parsed (λ l. require u r (λ _. y l))
 unfolding require
 parse-require true r y h p = p
 parse-require false r y h p = refuses r h (λ l. refl)
@@ -234,7 +230,7 @@ parse-plain (t ∷ ts) p h =
 
 -- f reads a text: a byte of t is at fault with r, or no beginning of t is spoilt
 data Traced (t : List ℕ) (f : List ℕ → Reading) : Type 0 where
-  spoilt : (r : Refusal) → spoils r ≡ true → (before : List ℕ) (at : ℕ) (rest : List ℕ) → t ≡ before ++ at ∷ rest
+  spoilt : (r : Fault) → ofByte r ≡ true → (before : List ℕ) (at : ℕ) (rest : List ℕ) → t ≡ before ++ at ∷ rest
       → ((u : List ℕ) → f (before ++ at ∷ u) ≡ refused r) → ((p s : List ℕ) → before ≡ p ++ s → NotYet (f p)) → Traced t f
   clear : ((p s : List ℕ) → t ≡ p ++ s → NotYet (f p)) → Traced t f
 
@@ -253,8 +249,8 @@ unfolding tail
 begin-more b l f h g [] s e = h
 begin-more b l f h g (c ∷ p) s e = subst (λ n. NotYet (f (n ∷ p))) (ap (λ z. getD z 0 0) e) (g p s (ap tail e))
 
--- the next byte spoils the text; or the text goes on as g reads it
-spoilt-here : (b : ℕ) (l : List ℕ) (f : List ℕ → Reading) (r : Refusal) → spoils r ≡ true → NotYet (f []) → ((u : List ℕ) → f (b ∷ u) ≡ refused r)
+-- the next byte ofByte the text; or the text goes on as g reads it
+spoilt-here : (b : ℕ) (l : List ℕ) (f : List ℕ → Reading) (r : Fault) → ofByte r ≡ true → NotYet (f []) → ((u : List ℕ) → f (b ∷ u) ≡ refused r)
     → Traced (b ∷ l) f
 spoilt-here b l f r g h e = spoilt r g [] b l refl e (begin-none f h)
 
@@ -288,7 +284,7 @@ end-notyet (printing l) outside = refl
 end-notyet (printing l) (inside f st q c) = refl
 end-notyet (printing l) (whole w) = refl
 
-broken : (r : Refusal) (q : Place) → parse (fault r) q ≡ refused r
+broken : (r : Fault) (q : Place) → parse (fault r) q ≡ refused r
 unfolding parse
 broken r outside = refl
 broken r (inside f st q c) = refl
@@ -331,30 +327,27 @@ unfolding read require
 read-long t h = simp (lt-leb (length t) maxText h)
 
 -- the refusal of a reading, with r for an accepted one
-refusal : Refusal → Reading → Refusal
+refusal : Fault → Reading → Fault
 refusal r (refused e) = e
 refusal r (accepted w) = r
 
-same-refusal : (r s : Refusal) → refused r ≡ refused s → r ≡ s
+same-refusal : (r s : Fault) → refused r ≡ refused s → r ≡ s
 unfolding refusal
 same-refusal r s e = ap (refusal r) e
 
 -- the numbers 2 and 7 are of no byte
-byte-not-long : (r : Refusal) → ofByte r ≡ true → r ≡ LongText → ⊥
+byte-not-long : (r : Fault) → ofByte r ≡ true → r ≡ LongText → ⊥
 byte-not-long r h e = false≢true (sym (ap ofByte e) ∙ h)
 
-byte-not-unfinished : (r : Refusal) → ofByte r ≡ true → r ≡ Unfinished → ⊥
+byte-not-unfinished : (r : Fault) → ofByte r ≡ true → r ≡ Unfinished → ⊥
 byte-not-unfinished r h e = false≢true (sym (ap ofByte e) ∙ h)
 
 long-not-early : LongText ≡ Unfinished → ⊥
-long-not-early q = false≢true (ap (λ r. eqb (refusalNumber r) 7) q)
-
-of-byte : (r : Refusal) → spoils r ≡ true → ofByte r ≡ true
-of-byte r h = first-true (ofByte r) (between 2 9 (refusalNumber r)) h
+long-not-early q = false≢true (ap (λ r. eqb (faultNumber r) 7) q)
 
 -- a short text has a byte at fault, or is unfinished or accepted
 data Judged (t : List ℕ) : Type 0 where
-  at-byte : (r : Refusal) → spoils r ≡ true → FaultAt r t → Judged t
+  at-byte : (r : Fault) → ofByte r ≡ true → FaultAt r t → Judged t
   at-end : NotYet (read t) → Judged t
 
 fits-part : (t p s : List ℕ) → t ≡ p ++ s → length t ≤ maxText → length p ≤ maxText
@@ -377,11 +370,11 @@ judged t h = go (trace t idle outside)
         })
     go (clear k) = at-end (subst NotYet (sym (read-short t h)) (k t [] (sym (append-nil t))))
 
-fault-reads : (t : List ℕ) (r : Refusal) → length t ≤ maxText → FaultAt r t → read t ≡ refused r
+fault-reads : (t : List ℕ) (r : Fault) → length t ≤ maxText → FaultAt r t → read t ≡ refused r
 fault-reads t r h f = ap read (f .parts) ∙ f .settled (f .rest) (subst (λ z. length z ≤ maxText) (f .parts) h)
 
 -- a text of more than 256 bytes has the number 2
-short-enough : (t : List ℕ) (r : Refusal) → read t ≡ refused r → (r ≡ LongText → ⊥) → length t ≤ maxText
+short-enough : (t : List ℕ) (r : Fault) → read t ≡ refused r → (r ≡ LongText → ⊥) → length t ≤ maxText
 short-enough t r e h = go (leb (length t) maxText) refl
   where
     go : (u : Bool) → leb (length t) maxText ≡ u → length t ≤ maxText
@@ -408,7 +401,7 @@ unfinished-exactly t = (early, λ e. go e (judged t (e .text)) (read t) refl)
         }
 
     go : EndsEarly t → Judged t → (x : Reading) → read t ≡ x → read t ≡ refused Unfinished
-    go e (at-byte r o f) x q = absurd (e .faultless r (of-byte r o) f)
+    go e (at-byte r o f) x q = absurd (e .faultless r o f)
     go e (at-end h) (refused r) q = q ∙ ap refused (subst NotYet q h)
     go e (at-end h) (accepted w) q = absurd (e .incomplete w (reading-sound t w q))
 
@@ -416,30 +409,9 @@ pub long-exactly : LongExactly
 long-exactly t = (λ e. go e (leb (length t) maxText) refl, read-long t)
   where
     judge : read t ≡ refused LongText → (h : length t ≤ maxText) → Judged t → ⊥
-    judge e h (at-byte r o f) = byte-not-long r (of-byte r o) (same-refusal r LongText (sym (fault-reads t r h f) ∙ e))
+    judge e h (at-byte r o f) = byte-not-long r o (same-refusal r LongText (sym (fault-reads t r h f) ∙ e))
     judge e h (at-end n) = long-not-early (subst NotYet e n)
 
     go : read t ≡ refused LongText → (u : Bool) → leb (length t) maxText ≡ u → maxText < length t
     go e true q = absurd (judge e (leb-true (length t) maxText q) (judged t (leb-true (length t) maxText q)))
     go e false q = leb-false (length t) maxText q
-
--- a reading is refused by a text's fault, 2 to 9, if at all
-abbrev pub FaultOnly : Reading → Type 0
-FaultOnly (refused r) = between 2 9 (refusalNumber r) ≡ true
-FaultOnly (accepted w) = Unit {0}
-
--- a text is refused with 2 to 9 alone
-pub fault-read : (t : List ℕ) → FaultOnly (read t)
-fault-read t = go (leb (length t) maxText) refl
-  where
-    ended : (x : Reading) → NotYet x → FaultOnly x
-    ended (refused r) e = ap (λ z. between 2 9 (refusalNumber z)) e
-    ended (accepted w) e = tt
-
-    judge : length t ≤ maxText → Judged t → FaultOnly (read t)
-    judge h (at-byte r o f) = subst FaultOnly (sym (fault-reads t r h f)) (second-true (ofByte r) (between 2 9 (refusalNumber r)) o)
-    judge h (at-end n) = ended (read t) n
-
-    go : (u : Bool) → leb (length t) maxText ≡ u → FaultOnly (read t)
-    go true q = let h = leb-true (length t) maxText q in judge h (judged t h)
-    go false q = subst FaultOnly (sym (read-long t (leb-false (length t) maxText q))) refl

@@ -8,8 +8,8 @@ use mathlib.Core.List.{List, [], _∷_}
 use lib.ListN.{length}
 use lib.Dec.{leb, ltb}
 use borrow.Author.Tests.{leb-true, le-leb}
-use Rattle.language.specs.declared.Refusal.{Refusal}
-use Rattle.language.specs.declared.Refusal.the-variants.{LongText, Deep, TableFull, ManyCounters}
+use Rattle.language.specs.declared.Fault.{Fault}
+use Rattle.language.specs.declared.Fault.the-variants.{LongText, Deep, TableFull, ManyCounters}
 use Rattle.language.specs.Limits.{maxText, maxLevels, maxCells, maxCounters}
 use Rattle.language.specs.Syntax.{condition, counter, Expr, close, semi, colon, operate, test, call, inner}
 use Rattle.language.specs.Tokens.{Token, opens, closes, semis, colons, begins, ends, does, asks, counts, calls, faults, idle, tokens}
@@ -54,10 +54,10 @@ Accepting (refused r) = ⊥
 Accepting (accepted w) = Unit {0}
 
 -- a refused text is not accepted
-pub not-accepted : (r : Refusal) (w : Expr) → refused r ≡ accepted w → ⊥
+pub not-accepted : (r : Fault) (w : Expr) → refused r ≡ accepted w → ⊥
 not-accepted r w h = subst Accepting (sym h) tt
 
-required : (u : Bool) (r : Refusal) (k : Unit {0} → Reading) (w : Expr) → require u r k ≡ accepted w → (u ≡ true) × (k tt ≡ accepted w)
+required : (u : Bool) (r : Fault) (k : Unit {0} → Reading) (w : Expr) → require u r k ≡ accepted w → (u ≡ true) × (k tt ≡ accepted w)
 unfolding require
 required true r k w h = (refl, h)
 required false r k w h = absurd (not-accepted r w h)
@@ -190,7 +190,7 @@ depth-positive (inner f e) = omega (arith, depth-positive e)
 
 -- ── complete: what it reads from the tokens of marks ────────────────────────────────────────────
 
-require-true : (u : Bool) (r : Refusal) (k : Unit {0} → Reading) → u ≡ true → require u r k ≡ k tt
+require-true : (u : Bool) (r : Fault) (k : Unit {0} → Reading) → u ≡ true → require u r k ≡ k tt
 unfolding require
 require-true true r k h = refl
 require-true false r k h = absurd (false≢true h)

@@ -11,7 +11,7 @@ use lib.Dec.{eqb}
 use borrow.Author.Tests.{ne-eqb}
 use Rattle.language.specs.declared.Table.{Table}
 use Rattle.language.specs.Limits.{maxCells}
-use Rattle.language.specs.Roles.{letterMark}
+use Rattle.language.specs.Roles.{permissionAt}
 use Rattle.language.specs.Syntax.{Operation, operator, variable, constant, print, Predicate, condition, counter}
 use Rattle.language.specs.Syntax.{Expr, close, semi, colon, operate, test, call, inner}
 use Rattle.language.specs.Layout.{afterOperation, afterPredicate, afterCall, afterExpr, falseExit, byteCells, operationCells, predicateCells, exprCells, usedCells, layout}
@@ -94,4 +94,4 @@ stored-stands c u a (some w) h =
 pub machine-meaning : MachineMeaning
 unfolding execute
 machine-meaning texts c u k r h a w e n g s lt =
-    sym (run-meaning texts (letterMark k) r (decodeAt c u) (standsAt u) (λ b. stored-stands c u b (texts b) (h b)) g a w s n e lt)
+    sym (run-meaning texts (permissionAt k) r (decodeAt c u) (standsAt u) (λ b. stored-stands c u b (texts b) (h b)) g a w s n e lt)

@@ -10,7 +10,7 @@ use borrow.Author.Tests.{lt-ltb, ne-eqb}
 use Rattle.language.specs.Limits.{maxLetters}
 use Rattle.language.specs.Letters.{firstLetter, lastLetter, letterByte}
 use Rattle.language.specs.Bytes.{digitByte, isDigit, minusByte, newlineByte, quoteByte, tickByte}
-use Rattle.language.specs.declared.Refusal.{Refusal}
+use Rattle.language.specs.declared.Fault.{Fault}
 use Rattle.language.specs.Syntax.{Operator, absolute, discard, negate, copy, write, newline, input, add, subtract, multiply, divide, operatorByte}
 use Rattle.language.specs.Syntax.{Access, fetch, save, accessByte, Condition, negative, null, equal, conditionByte}
 use Rattle.language.specs.Syntax.{operator, variable, constant, print}
@@ -67,7 +67,7 @@ digit-of d = omega arith
 
 -- ── forms ───────────────────────────────────────────────────────────────────────────────────────
 
-unless-true : (u : Bool) (r : Refusal) (k : Unit {0} → List Token) → u ≡ true → unless u r k ≡ k tt
+unless-true : (u : Bool) (r : Fault) (k : Unit {0} → List Token) → u ≡ true → unless u r k ≡ k tt
 unfolding unless
 unless-true true r k h = refl
 unless-true false r k h = absurd (false≢true h)

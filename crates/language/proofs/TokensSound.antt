@@ -9,7 +9,7 @@ use lib.Dec.{ltb, eqb}
 use borrow.Author.Tests.{ltb-true, eqb-true}
 use Rattle.language.specs.Letters.{firstLetter, lastLetter}
 use Rattle.language.specs.Bytes.{digitByte, dollarByte, isDigit, minusByte, quoteByte, slashByte, tickByte}
-use Rattle.language.specs.declared.Refusal.{Refusal}
+use Rattle.language.specs.declared.Fault.{Fault}
 use Rattle.language.specs.Syntax.{absolute, discard, negate, copy, write, newline, input, add, subtract, multiply, divide}
 use Rattle.language.specs.Syntax.{Access, accessByte, negative, null, equal}
 use Rattle.language.specs.Tokens.{Token, classes, Class, blank, quote, opening, closing, semicolon, point, dollar, tick, stray, operating, accessing, comparing, calling, class}
@@ -133,7 +133,7 @@ Rest (after-access a) l = Spelled (accessByte a ∷ l)
 Rest (number f n v) l = n ≤ mostDigits f → Numeral f n v l
 Rest (printing p) l = Delimited printByte tickByte l
 
-unless-clean : (u : Bool) (r : Refusal) (k : Unit {0} → List Token) → Clean (unless u r k) → (u ≡ true) × Clean (k tt)
+unless-clean : (u : Bool) (r : Fault) (k : Unit {0} → List Token) → Clean (unless u r k) → (u ≡ true) × Clean (k tt)
 unfolding unless
 unless-clean true r k c = (refl, c)
 unless-clean false r k c = absurd c

@@ -11,7 +11,7 @@ use Rattle.language.specs.declared.Table.{Table}
 use Rattle.language.specs.Reading.{refused, accepted}
 use Rattle.language.specs.Layout.{cleared}
 use Rattle.language.specs.Machine.{transfer, fail, last, damaged, code, run}
-use Rattle.language.specs.Trials.{bytes, times, neg, zeros, Result, ends, halts, took, keeps, wrote, Example, refusedAs, gives, decodes, refuses, lays, fault, says, saysNone, trial, within, once, fed, printing, guarded, calling, both}
+use Rattle.language.specs.Trials.{bytes, times, neg, zeros, Result, ends, halts, took, keeps, wrote, Example, refusedAs, gives, decodes, lays, fault, says, saysNone, trial, within, once, fed, printing, guarded, calling, both}
 
 -- ── document 01, "Examples", the starred ones ───────────────────────────────────────────────────
 
@@ -93,19 +93,6 @@ faults =
     ++ each 3 ("(#'/x" ∷ [])
     ++ each 6 ("('/x#" ∷ "('/x($x" ∷ [])
     ++ each 5 ("($x'/x" ∷ [])
-    -- "Finished is 0. Numbers 1 to 14 refuse; 20 to 29 end a run."
-    ++ refuses 0 false
-    ∷ refuses 1 true
-    ∷ refuses 14 true
-    ∷ refuses 15 false
-    ∷ refuses 20 false
-    -- document 02, U7: 33 and 35 refuse; 34 is "an ending"
-    ∷ refuses 32 false
-    ∷ refuses 33 true
-    ∷ refuses 34 false
-    ∷ refuses 35 true
-    ∷ refuses 36 false
-    ∷ []
 
 -- ── limits ──────────────────────────────────────────────────────────────────────────────────────
 

@@ -15,7 +15,7 @@ pub data Outcome : Type 0 where
 
 -- Inside the letter l, with d calls open. `texts` are the standing texts, `marks` the letters' marks and `role` the caller's role: "The nested meaning
 -- carries role and marks" (document 02, U7). `again` obeys an expression of a letter from its start.
-module _ (texts : ℕ → Option Expr) (marks : ℕ → ℕ) (role : ℕ) (again : ℕ → Expr → ℕ → State → ℕ → Outcome) (l d : ℕ) where
+module _ (texts : ℕ → Option Expr) (permissions : ℕ → ℕ) (role : ℕ) (again : ℕ → Expr → ℕ → State → ℕ → Outcome) (l d : ℕ) where
   unfoldable mutual
     -- Obey the rest e of the expression w, with r steps left. "spent: steps equal the allowance and another step is due." "Reaching `;` ends
     -- true, `:` starts the expression again, `)` ends false." "A mark that stops a run changes nothing and is not counted."
@@ -33,7 +33,7 @@ module _ (texts : ℕ → Option Expr) (marks : ℕ → ℕ) (role : ℕ) (again
         elim (ask l p s) [ answers true s′ ↦ obey e w s′ r | answers false s′ ↦ skip e w s′ r | stalls k ↦ stopped k s (suc r) ]
     obey (call a e) w s zero = stopped Spent s zero
     obey (call a e) w s (suc r) =
-        onCall (texts a) (bars role (marks a)) d (λ k. stopped k s (suc r))
+        onCall (texts a) (bars role (permissions a)) d (λ k. stopped k s (suc r))
         (λ v. elim (again a v (suc d) s r) [ ended true s′ r′ ↦ obey e w s′ r′ | ended false s′ r′ ↦ skip e w s′ r′ | stopped k s′ r′ ↦ stopped k s′ r′ ])
     obey (inner f e) w s r =
         elim (obey f f s r) [ ended true s′ r′ ↦ obey e w s′ r′ | ended false s′ r′ ↦ skip e w s′ r′ | stopped k s′ r′ ↦ stopped k s′ r′ ]
@@ -52,5 +52,5 @@ module _ (texts : ℕ → Option Expr) (marks : ℕ → ℕ) (role : ℕ) (again
 -- than the steps left does not occur: any g above r gives the same outcome.
 unfoldable pub meaning : (ℕ → Option Expr) → (ℕ → ℕ) → ℕ → ℕ → ℕ → Expr → ℕ → State → ℕ → Outcome
 unfolding obey bars
-meaning texts marks role zero l w d s r = stopped Spent s r
-meaning texts marks role (suc g) l w d s r = obey texts marks role (meaning texts marks role g) l d w w s r
+meaning texts permissions role zero l w d s r = stopped Spent s r
+meaning texts permissions role (suc g) l w d s r = obey texts permissions role (meaning texts permissions role g) l d w w s r

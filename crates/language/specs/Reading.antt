@@ -5,8 +5,8 @@ use mathlib.Core.Option.{Option, none, some}
 use mathlib.Core.List.{List, [], _∷_}
 use lib.ListN.{length}
 use lib.Dec.{leb, ltb}
-use Rattle.language.specs.declared.Refusal.{Refusal}
-use Rattle.language.specs.declared.Refusal.the-variants.{LongText, StrayMark, Deep, Unfinished, TableFull, ManyCounters}
+use Rattle.language.specs.declared.Fault.{Fault}
+use Rattle.language.specs.declared.Fault.the-variants.{LongText, StrayMark, Deep, Unfinished, TableFull, ManyCounters}
 use Rattle.language.specs.Limits.{maxText, maxLevels, maxCells, maxCounters}
 use Rattle.language.specs.Syntax.{condition, counter, Expr, close, semi, colon, operate, test, call, inner}
 use Rattle.language.specs.Tokens.{Token, opens, closes, semis, colons, begins, ends, does, asks, counts, calls, faults, idle, tokens}
@@ -14,7 +14,7 @@ use Rattle.language.specs.Layout.{afterOperation, afterPredicate, afterC
 
 -- what a text is read to: the refusal of its first fault, or its expression
 pub data Reading : Type 0 where
-  refused : Refusal → Reading
+  refused : Fault → Reading
   accepted : Expr → Reading
 
 -- Where the parser is: before the outermost `(`; in an expression; after the last `)`. In an expression it knows the expressions that are open,
@@ -25,7 +25,7 @@ pub data Place : Type 0 where
   whole : Expr → Place
 
 -- on where a test holds, else refused
-unfoldable pub require : Bool → Refusal → (Unit {0} → Reading) → Reading
+unfoldable pub require : Bool → Fault → (Unit {0} → Reading) → Reading
 require true r k = k tt
 require false r k = refused r
 

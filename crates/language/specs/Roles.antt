@@ -6,12 +6,12 @@ use lib.ListN.{getD}
 use lib.Dec.{eqb}
 
 -- "a mark, set by define: open (0) ..", `OPEN` of src/lib.rt
-abbrev pub openMark : ℕ
-openMark = 0
+abbrev pub openPermission : ℕ
+openPermission = 0
 
 -- ".. or steward (1)", `STEWARDS`
-abbrev pub stewardMark : ℕ
-stewardMark = 1
+abbrev pub stewardPermission : ℕ
+stewardPermission = 1
 
 -- "the caller's role, cashier (0) ..", `CASHIER`
 abbrev pub cashierRole : ℕ
@@ -22,12 +22,12 @@ abbrev pub stewardRole : ℕ
 stewardRole = 1
 
 -- the mark of letter a, a as 0, of a list of marks
-abbrev pub letterMark : List ℕ → ℕ → ℕ
-letterMark k a = getD k a openMark
+abbrev pub permissionAt : List ℕ → ℕ → ℕ
+permissionAt k a = getD k a openPermission
 
 -- one of the two marks: "bad mark, a mark or role neither of the two"
-unfoldable pub isMark : ℕ → Bool
-isMark k = eqb k openMark || eqb k stewardMark
+unfoldable pub isPermission : ℕ → Bool
+isPermission k = eqb k openPermission || eqb k stewardPermission
 
 -- one of the two roles
 unfoldable pub isRole : ℕ → Bool
@@ -35,4 +35,4 @@ isRole r = eqb r cashierRole || eqb r stewardRole
 
 -- A letter with the mark k is not for a caller with the role r: "Some letters may be run only by a steward."
 unfoldable pub bars : ℕ → ℕ → Bool
-bars r k = eqb r cashierRole && eqb k stewardMark
+bars r k = eqb r cashierRole && eqb k stewardPermission

@@ -9,14 +9,14 @@ use lib.Signed.{_≤ℤ_}
 use lib.ListN.{length, getD, take, drop}
 use lib.Dec.{eqb}
 use Rattle.language.specs.declared.Table.{Table}
-use Rattle.language.specs.declared.Refusal.{Refusal}
-use Rattle.language.specs.declared.Refusal.the-variants.{LongText, Unfinished}
+use Rattle.language.specs.declared.Fault.{Fault}
+use Rattle.language.specs.declared.Fault.the-variants.{LongText, Unfinished}
 use Rattle.language.specs.declared.Ending.the-variants.{PaperOut}
-use Rattle.language.specs.Answers.{refusalNumber}
+use Rattle.language.specs.Answers.{faultNumber}
 use Rattle.language.specs.Limits.{maxText, maxCells, maxHeight, writeWidth}
 use Rattle.language.specs.Syntax.{Expr, close, semi, colon, operate, test, call, inner, operator, write, divide}
 use Rattle.language.specs.Values.{isValue}
-use Rattle.language.specs.Roles.{letterMark}
+use Rattle.language.specs.Roles.{permissionAt}
 use Rattle.language.specs.Reading.{Reading, refused, accepted, read}
 use Rattle.language.specs.Grammar.{Spells, Within}
 use Rattle.language.specs.Layout.{afterOperation, afterPredicate, afterCall, afterExpr, falseExit, codeStart, usedCells, layout}
@@ -51,7 +51,7 @@ NotYet (accepted w) = Unit {0}
 
 -- A byte of the text t is at fault with r: every text of at most 256 bytes that agrees with t up to and with that byte is refused by r, and no
 -- beginning of t that ends before it is.
-pub record FaultAt (r : Refusal) (t : List ℕ) : Type 0 where
+pub record FaultAt (r : Fault) (t : List ℕ) : Type 0 where
   pub before : List ℕ
   pub at : ℕ
   pub rest : List ℕ
@@ -60,17 +60,17 @@ pub record FaultAt (r : Refusal) (t : List ℕ) : Type 0 where
   pub unspoilt : (p s : List ℕ) → before ≡ p ++ s → NotYet (read p)
 
 -- a number that a byte is at fault with: not 2, which is the text's length, nor 7, which is its end
-abbrev pub ofByte : Refusal → Bool
-ofByte r = cond (eqb (refusalNumber r) 2) false (not (eqb (refusalNumber r) 7))
+abbrev pub ofByte : Fault → Bool
+ofByte r = cond (eqb (faultNumber r) 2) false (not (eqb (faultNumber r) 7))
 
 -- "the number of its first fault": such a number refuses a text exactly when a byte is at fault with it. proofs/ReadingFaults `first-fault`
 abbrev pub FirstFault : Type 0
-FirstFault = (t : List ℕ) (r : Refusal) → ofByte r ≡ true → (read t ≡ refused r → FaultAt r t) × (length t ≤ maxText → FaultAt r t → read t ≡ refused r)
+FirstFault = (t : List ℕ) (r : Fault) → ofByte r ≡ true → (read t ≡ refused r → FaultAt r t) × (length t ≤ maxText → FaultAt r t → read t ≡ refused r)
 
 -- the text has no byte at fault, and ends before its grammar does
 pub record EndsEarly (t : List ℕ) : Type 0 where
   pub text : length t ≤ maxText
-  pub faultless : (r : Refusal) → ofByte r ≡ true → FaultAt r t → ⊥
+  pub faultless : (r : Fault) → ofByte r ≡ true → FaultAt r t → ⊥
   pub incomplete : (w : Expr) → Keeps t w → ⊥
 
 -- "unfinished: the text ends before its grammar does": exactly then. proofs/ReadingFaults `unfinished-exactly`
@@ -203,7 +203,7 @@ Holds t (some w) = HoldsText t w
 abbrev pub MachineMeaning : Type 0
 MachineMeaning =
     (texts : ℕ → Option Expr) (c : List ℤ) (u k : List ℕ) (r : ℕ) → ((a : ℕ) → Holds (tableAt c u a) (texts a))
-    → (a : ℕ) (w : Expr) → texts a ≡ some w → (n g : ℕ) (s : State) → n < g → execute c u k r a n s ≡ meaning texts (letterMark k) r g a w 0 s n
+    → (a : ℕ) (w : Expr) → texts a ≡ some w → (n g : ℕ) (s : State) → n < g → execute c u k r a n s ≡ meaning texts (permissionAt k) r g a w 0 s n
 
 -- what a run has done to the caller's list and output o: "The first list place is the bottom; places above the height are 0; output past its
 -- length is unchanged"

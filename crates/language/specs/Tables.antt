@@ -8,7 +8,7 @@ use lib.Dec.{eqb}
 use Rattle.language.specs.declared.Table.{Table}
 use Rattle.language.specs.Between.{between}
 use Rattle.language.specs.Limits.{maxCells}
-use Rattle.language.specs.Roles.{letterMark, isMark, bars}
+use Rattle.language.specs.Roles.{permissionAt, isPermission, bars}
 use Rattle.language.specs.Layout.{codeStart}
 use Rattle.language.specs.Effects.{State}
 use Rattle.language.specs.Meaning.{Outcome}
@@ -32,7 +32,7 @@ standsAt u a = not (eqb (getD u a 0) 0)
 
 -- letter a, by its mark of the marks k, is not for a caller with the role r
 abbrev pub barredAt : List ℕ → ℕ → ℕ → Bool
-barredAt k r a = bars r (letterMark k a)
+barredAt k r a = bars r (permissionAt k a)
 
 -- what the machine comes to from cell 2 of letter a, for a caller with the role r, with n steps
 unfoldable pub execute : List ℤ → List ℕ → List ℕ → ℕ → ℕ → ℕ → State → Outcome
@@ -51,7 +51,7 @@ soundUsed [] = true
 soundUsed (n ∷ l) = soundCount n && soundUsed l
 
 -- Document 02, U7: "The bad-store test covers a mark with any other value." Every mark of a list is one of the two.
-unfoldable pub soundMarks : List ℕ → Bool
-unfolding isMark
-soundMarks [] = true
-soundMarks (k ∷ l) = isMark k && soundMarks l
+unfoldable pub soundPermissions : List ℕ → Bool
+unfolding isPermission
+soundPermissions [] = true
+soundPermissions (k ∷ l) = isPermission k && soundPermissions l

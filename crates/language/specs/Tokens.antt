@@ -4,8 +4,8 @@ use mathlib.Core.Bool.{Bool, true, false, cond}
 use mathlib.Core.List.{List, [], _∷_, _++_, map, reverse}
 use lib.IntN.{ℤ, pos, negℤ}
 use lib.Dec.{ltb, eqb}
-use Rattle.language.specs.declared.Refusal.{Refusal}
-use Rattle.language.specs.declared.Refusal.the-variants.{StrayMark, BadCounter, BadConstant, Unfinished}
+use Rattle.language.specs.declared.Fault.{Fault}
+use Rattle.language.specs.declared.Fault.the-variants.{StrayMark, BadCounter, BadConstant, Unfinished}
 use Rattle.language.specs.Between.{between}
 use Rattle.language.specs.Lookup.{lookup}
 use Rattle.language.specs.Bytes.{blankByte, newlineByte, quoteByte, dollarByte, tickByte, openByte, closeByte, commaByte, minusByte, pointByte}
@@ -20,7 +20,7 @@ pub data Token : Type 0 where
   does : Operation → Token
   asks : Condition → Token
   counts calls : ℕ → Token
-  faults : Refusal → Token
+  faults : Fault → Token
 
 -- ── bytes ───────────────────────────────────────────────────────────────────────────────────────
 
@@ -71,7 +71,7 @@ closingByte counterForm = dollarByte
 closingByte (constantForm s) = tickByte
 
 -- "bad counter: a byte breaks its form"; "bad constant: a byte after `'/` breaks its form"
-abbrev pub formFault : Form → Refusal
+abbrev pub formFault : Form → Fault
 formFault counterForm = BadCounter
 formFault (constantForm s) = BadConstant
 
@@ -96,11 +96,11 @@ pub data Mode : Type 0 where
   printing : List ℕ → Mode
 
 -- a fault ends the tokens
-abbrev pub fault : Refusal → List Token
+abbrev pub fault : Fault → List Token
 fault r = faults r ∷ []
 
 -- on where a test holds, else a fault
-unfoldable pub unless : Bool → Refusal → (Unit {0} → List Token) → List Token
+unfoldable pub unless : Bool → Fault → (Unit {0} → List Token) → List Token
 unless true r k = k tt
 unless false r k = fault r
 

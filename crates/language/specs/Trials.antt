@@ -11,7 +11,7 @@ use lib.ListN.{length, take, replicate}
 use lib.Dec.{eqb}
 use Rattle.language.specs.declared.Table.{Table}
 use Rattle.language.specs.declared.Ending.the-variants.{NoText}
-use Rattle.language.specs.Answers.{refusalNumber, isRefusal, endingNumber}
+use Rattle.language.specs.Answers.{faultNumber, endingNumber}
 use Rattle.language.specs.Letters.{letterIndex}
 use Rattle.language.specs.Roles.{bars}
 use Rattle.language.specs.Syntax.{Expr}
@@ -136,10 +136,10 @@ unfolding read exprOf
 textAt [] a = none
 textAt ((l, t) ∷ ts) a = cond (eqb (letterIndex (codeOf l)) a) (exprOf (read t)) (textAt ts a)
 
--- the mark of letter a, where these letters are stewards'
-unfoldable pub markIn : List Char → ℕ → ℕ
-markIn [] a = 0
-markIn (l ∷ ls) a = cond (eqb (letterIndex (codeOf l)) a) 1 (markIn ls a)
+-- the permission of letter a, where these letters are stewards'
+unfoldable pub permissionIn : List Char → ℕ → ℕ
+permissionIn [] a = 0
+permissionIn (l ∷ ls) a = cond (eqb (letterIndex (codeOf l)) a) 1 (permissionIn ls a)
 
 -- a text is there
 abbrev pub isSome : Option Expr → Bool
@@ -154,7 +154,7 @@ startOf x = start fresh (x .inputs) (replicate (x .room) 42)
 abbrev pub obeyedBy : Trial → Option Expr → Outcome
 obeyedBy x none = stopped NoText (startOf x) (x .allowance)
 obeyedBy x (some w) =
-    meaning (textAt (x .texts)) (markIn (x .stewards)) (x .role) (suc (x .allowance)) (letterIndex (codeOf (x .letter))) w 0 (startOf x) (x .allowance)
+    meaning (textAt (x .texts)) (permissionIn (x .stewards)) (x .role) (suc (x .allowance)) (letterIndex (codeOf (x .letter))) w 0 (startOf x) (x .allowance)
 
 -- what the nested meaning gives
 abbrev pub meant : Trial → Outcome
@@ -170,7 +170,7 @@ standsIn x a = isSome (textAt (x .texts) a)
 
 -- the letters that are not for the caller
 abbrev pub barredIn : Trial → ℕ → Bool
-barredIn x a = bars (x .role) (markIn (x .stewards) a)
+barredIn x a = bars (x .role) (permissionIn (x .stewards) a)
 
 -- what the table machine gives
 abbrev pub machined : Trial → Outcome
@@ -181,13 +181,12 @@ machined x =
 -- ── examples ────────────────────────────────────────────────────────────────────────────────────
 
 -- A text's table, all 250 cells of it, where these are used; the number that a text is refused with, 0 if it is accepted; a run's result, by the
--- nested meaning and by the table machine; what a cell of a table says; whether a number refuses; what the bytes of a slip are read as.
+-- nested meaning and by the table machine; what a cell of a table says; what the bytes of a slip are read as.
 pub data Example : Type 0 where
   laidOut : List ℕ → List ℤ → Example
   refusedAs : List ℕ → ℕ → Example
   gives : Trial → Result → Example
   decodes : Table → ℕ → Decoded → Example
-  refuses : ℕ → Bool → Example
   readAs : List ℕ → Option ℤ → Example
 
 -- the used cells and all cells of an accepted text
@@ -197,7 +196,7 @@ tableIn (accepted w) = (layout w .used, layout w .cells)
 
 -- the number that a text is refused with
 abbrev pub numberIn : Reading → ℕ
-numberIn (refused r) = refusalNumber r
+numberIn (refused r) = faultNumber r
 numberIn (accepted w) = 0
 
 -- what an example gives, and what it should give
@@ -206,7 +205,6 @@ pub data Given : Type 0 where
   number : ℕ → Given
   results : Result → Result → Given
   decoded : Decoded → Given
-  refusing : Bool → Given
   amountOf : Option ℤ → Given
 
 -- what an example gives
@@ -215,7 +213,6 @@ given (laidOut t c) = table (tableIn (read t))
 given (refusedAs t k) = number (numberIn (read t))
 given (gives x r) = results (resultOf (x .allowance) (meant x)) (resultOf (x .allowance) (machined x))
 given (decodes t q d) = decoded (decode t q)
-given (refuses k b) = refusing (isRefusal k)
 given (readAs b v) = amountOf (readMoney b)
 
 -- what it should give; "The other cells of the letter's 250 are 0."
@@ -224,7 +221,6 @@ due (laidOut t c) = table (length c, c ++ zeros (250 - length c))
 due (refusedAs t k) = number k
 due (gives x r) = results r r
 due (decodes t q d) = decoded d
-due (refuses k b) = refusing b
 due (readAs b v) = amountOf v
 
 -- every example gives what it should

@@ -1,11 +1,17 @@
 // What code and definitions share: a letter's code table with its limits, and the answers of document 01.
 ghost use mathlib.Core.Path.{_≡_};
-ghost use Rattle.language.specs.Answers.{refusalNumber, endingNumber};
+ghost use Rattle.language.specs.Answers.{faultNumber, endingNumber};
 ghost use Rattle.language.specs.Layout.{cleared};
 ghost use Rattle.language.specs.Roles.{bars};
 
 // The letters of a store, `a` to `z`.
 pub const LETTERS: usize = 26;
+
+// The byte of `a`. Letters are 32-bit numbers, of which most are no letter.
+pub const FIRST_LETTER: u32 = 97;
+
+// The byte of `z`.
+pub const LAST_LETTER: u32 = 122;
 
 // The cells of all letters' tables.
 pub const STORE_CELLS: usize = LETTERS * Table::CELLS;
@@ -31,7 +37,7 @@ pub const LEAST_VALUE: i32 = -999999999;
 // Document 02, U6: "right-justified in 14 columns"
 pub const WRITE_WIDTH: usize = 14;
 
-// Document 02, U7: the mark of a letter that anyone may run, "open (0) or steward (1)".
+// Document 02, U7: the permission of a letter that anyone may run, "open (0) or steward (1)".
 pub const OPEN: u32 = 0;
 
 // The mark of a letter that only a steward may run.
@@ -92,9 +98,8 @@ impl Table {
     }
 }
 
-// Why a call is refused, in the order of the documents' numbers: 1 to 14, 33 and 35.
-pub enum Refusal {
-    NoSuchLetter,
+// The first fault of a text that is refused, in the order of document 01's numbers, 2 to 9.
+pub enum Fault {
     LongText,
     StrayMark,
     Deep,
@@ -103,37 +108,22 @@ pub enum Refusal {
     Unfinished,
     TableFull,
     ManyCounters,
-    NotStanding,
-    BadInput,
-    BadList,
-    BadStore,
-    BadLine,
-    NotForCashiers,
-    BadMark,
 }
 
-impl Refusal {
-    // The documents' number.
+impl Fault {
+    // Document 01's number.
     pub fn number(self) -> u32
-        ensures { λ r. ⌜ r ≡ refusalNumber self ⌝ }
+        ensures { λ r. ⌜ r ≡ faultNumber self ⌝ }
     {
         match self {
-            Refusal::NoSuchLetter => 1,
-            Refusal::LongText => 2,
-            Refusal::StrayMark => 3,
-            Refusal::Deep => 4,
-            Refusal::BadCounter => 5,
-            Refusal::BadConstant => 6,
-            Refusal::Unfinished => 7,
-            Refusal::TableFull => 8,
-            Refusal::ManyCounters => 9,
-            Refusal::NotStanding => 10,
-            Refusal::BadInput => 11,
-            Refusal::BadList => 12,
-            Refusal::BadStore => 13,
-            Refusal::BadLine => 14,
-            Refusal::NotForCashiers => 33,
-            Refusal::BadMark => 35,
+            Fault::LongText => 2,
+            Fault::StrayMark => 3,
+            Fault::Deep => 4,
+            Fault::BadCounter => 5,
+            Fault::BadConstant => 6,
+            Fault::Unfinished => 7,
+            Fault::TableFull => 8,
+            Fault::ManyCounters => 9,
         }
     }
 }

@@ -16,4 +16,4 @@ pub record Room (cells : List ℤ) (base : ℕ) (table : List ℤ) : Type 0 wher
 
 -- the entry of letter k becomes that of the table t with the mark m, whatever the variables
 abbrev pub Puts : List ℤ → List ℕ → List ℕ → ℕ → Table → ℕ → List ℤ → List ℕ → List ℕ → Type 0
-Puts c u ms k t m c′ u′ ms′ = (v : List ℤ) → storeOf c′ u′ ms′ v ≡ withEntry (storeOf c u ms v) k (record { table = t; mark = m })
+Puts c u ms k t m c′ u′ ms′ = (v : List ℤ) → storeOf c′ u′ ms′ v ≡ withEntry (storeOf c u ms v) k (record { table = t; permission = m })

@@ -5,11 +5,10 @@ ghost use lib.ListN.{length};
 ghost use lib.Seq.{paste};
 ghost use Rattle.language.specs.Limits.{maxCells, maxLetters, storeCells};
 ghost use Rattle.book.specs.Calls.{defines, withdraws};
-ghost use Rattle.book.specs.Store.{storeOf, storeCall, told};
+ghost use Rattle.book.specs.Store.{storeOf, freshStore, storeCall, changed};
 ghost use Rattle.lent.specs.Lent.{Room, Puts};
 use language::LETTERS;
 use language::OPEN;
-use language::Refusal;
 use language::STORE_CELLS;
 use language::Table;
 use language::VARIABLES;
@@ -33,80 +32,84 @@ fn copy_table(cells: &mut [i32; STORE_CELLS], base: usize, table: &[i32; Table::
     }
 }
 
-// The entry of letter `k` is replaced: its table, its used-cell count and its mark.
+// The entry of letter `k` is replaced: its table, its used-cell count and its permission.
 fn put(
     cells: &mut [i32; STORE_CELLS],
     used: &mut [usize; LETTERS],
-    marks: &mut [u32; LETTERS],
+    permissions: &mut [u32; LETTERS],
     k: usize,
     table: Table,
-    mark: u32,
+    permission: u32,
 )
     requires { ⌜ k < maxLetters ⌝ }
-    ensures { λ _. ⌜ Puts (now (cells .entry)) (now (used .entry)) (now (marks .entry)) k table mark (now (cells .exit)) (now (used .exit)) (now (marks .exit)) ⌝ }
+    ensures { λ _. ⌜ Puts (now (cells .entry)) (now (used .entry)) (now (permissions .entry)) k table permission (now (cells .exit)) (now (used .exit)) (now (permissions .exit)) ⌝ }
 {
     let before = *cells;
     all_there(before);
     let from = table.cells;
     copy_table(cells, k * Table::CELLS, &from);
     used[k] = table.used;
-    marks[k] = mark;
+    permissions[k] = permission;
 }
 
-// The letter's table becomes that of the text, and its mark the one given: 0, or the refusal's number.
+// Every letter cleared and open, every variable 0, whatever the arrays held.
+pub fn fresh(
+    cells: &mut [i32; STORE_CELLS],
+    used: &mut [usize; LETTERS],
+    permissions: &mut [u32; LETTERS],
+    vars: &mut [i32; VARIABLES],
+)
+    ensures { λ _. ⌜ storeOf (now (cells .exit)) (now (used .exit)) (now (permissions .exit)) (now (vars .exit)) ≡ freshStore ⌝ }
+{
+    *cells = [0i32; STORE_CELLS];
+    *used = [0usize; LETTERS];
+    *permissions = [OPEN; LETTERS];
+    *vars = [0i32; VARIABLES];
+}
+
+// The letter's table becomes that of the text, and its permission the one given: 0, or the refusal's number.
 pub fn define(
     cells: &mut [i32; STORE_CELLS],
     used: &mut [usize; LETTERS],
-    marks: &mut [u32; LETTERS],
-    vars: [i32; VARIABLES],
-    letter: u8,
-    mark: u32,
+    permissions: &mut [u32; LETTERS],
+    vars: &[i32; VARIABLES],
+    letter: u32,
+    permission: u32,
     text: &[u8],
 ) -> u32
-    ensures { λ r. ⌜ told (storeOf (now (cells .exit)) (now (used .exit)) (now (marks .exit)) vars) r (defines letter mark (now (text .entry)))
-        ≡ storeCall (storeOf (now (cells .entry)) (now (used .entry)) (now (marks .entry)) vars) (defines letter mark (now (text .entry))) ⌝ }
+    ensures { λ r. ⌜ changed (storeOf (now (cells .exit)) (now (used .exit)) (now (permissions .exit)) (now (vars .entry))) r (defines letter permission (now (text .entry)))
+        ≡ storeCall (storeOf (now (cells .entry)) (now (used .entry)) (now (permissions .entry)) (now (vars .entry))) (defines letter permission (now (text .entry))) ⌝ }
 {
-    let guards = *marks;
-    if !validation::sound_store(used, guards, vars) {
-        return Refusal::BadStore.number();
+    let number = admission::define(used, permissions, vars, letter, permission);
+    if number != 0 {
+        return number;
     }
-    if !validation::is_letter(letter) {
-        return Refusal::NoSuchLetter.number();
-    }
-    if !validation::is_mark(mark) {
-        return Refusal::BadMark.number();
-    }
+    let k = admission::index(letter);
     let l = linker::link(text);
     if l.number != 0 {
         return l.number;
     }
     let table = l.table;
-    put(cells, used, marks, (letter - b'a') as usize, table, mark);
+    put(cells, used, permissions, k, table, permission);
     0
 }
 
-// The letter's text goes, and its mark is open: 0, or the refusal's number.
+// The letter's text goes, and its permission is open: 0, or the refusal's number.
 pub fn withdraw(
     cells: &mut [i32; STORE_CELLS],
     used: &mut [usize; LETTERS],
-    marks: &mut [u32; LETTERS],
-    vars: [i32; VARIABLES],
-    letter: u8,
+    permissions: &mut [u32; LETTERS],
+    vars: &[i32; VARIABLES],
+    letter: u32,
 ) -> u32
-    ensures { λ r. ⌜ told (storeOf (now (cells .exit)) (now (used .exit)) (now (marks .exit)) vars) r (withdraws letter)
-        ≡ storeCall (storeOf (now (cells .entry)) (now (used .entry)) (now (marks .entry)) vars) (withdraws letter) ⌝ }
+    ensures { λ r. ⌜ changed (storeOf (now (cells .exit)) (now (used .exit)) (now (permissions .exit)) (now (vars .entry))) r (withdraws letter)
+        ≡ storeCall (storeOf (now (cells .entry)) (now (used .entry)) (now (permissions .entry)) (now (vars .entry))) (withdraws letter) ⌝ }
 {
-    let guards = *marks;
-    if !validation::sound_store(used, guards, vars) {
-        return Refusal::BadStore.number();
+    let number = admission::text(used, permissions, vars, letter);
+    if number != 0 {
+        return number;
     }
-    if !validation::is_letter(letter) {
-        return Refusal::NoSuchLetter.number();
-    }
-    let k = (letter - b'a') as usize;
-    if used[k] == 0 {
-        return Refusal::NotStanding.number();
-    }
-    put(cells, used, marks, k, Table::fresh(), OPEN);
+    let k = admission::index(letter);
+    put(cells, used, permissions, k, Table::fresh(), OPEN);
     0
 }

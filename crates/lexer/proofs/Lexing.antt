@@ -10,12 +10,12 @@ use lib.ListN.{length, getD, take, drop, drop-of-length-le, length-drop}
 use lib.Seq.{drop-cons, take-suc, getD-drop}
 use borrow.Author.Tests.{eq-eqb, ne-eqb, le-leb, lt-leb, lt-ltb, le-ltb}
 use Rattle.language.specs.Bytes.{newlineByte, quoteByte, tickByte, minusByte, slashByte, digitByte, isDigit}
-use Rattle.language.specs.declared.Refusal.{Refusal}
-use Rattle.language.specs.declared.Refusal.the-variants.{StrayMark, BadCounter}
+use Rattle.language.specs.declared.Fault.{Fault}
+use Rattle.language.specs.declared.Fault.the-variants.{StrayMark, BadCounter}
 use Rattle.language.specs.Syntax.{Access, variable, print}
 use Rattle.language.specs.Tokens.{Token, begins, ends, does, counts, faults, Class, class, digitCell}
 use Rattle.language.specs.Tokens.{Form, counterForm, mostDigits, closingByte, formFault, constantForm, Mode, idle, comment, after-tick, after-slash, after-access, number, printing}
-use Rattle.lexer.specs.Lexing.{refusalOf, NumberIs, SkipsTo, Skips, Means, Lexes, Takes}
+use Rattle.lexer.specs.Lexing.{faultOf, NumberIs, SkipsTo, Skips, Means, Lexes, Takes}
 use Rattle.lexer.specs.declared.Number.{Number}
 use Rattle.lexer.specs.declared.Number.the-variants as N
 use Rattle.lexer.specs.declared.Token as Lexer
@@ -194,7 +194,7 @@ pub answered : {t : List Token} {s : List ℕ} {from : ℕ} (k : Lexer.Token) (n
     → from ≤ n → n ≤ length s → Lexes t s from r
 answered {t} {s} {from} k n e m a i = subst (λ r. Lexes t s from r) (sym e) (record { means = m; after = a; inside = i })
 
-pub faulted : {t : List Token} {s : List ℕ} {from : ℕ} (w : Refusal) (n : ℕ) {r : Lexed} → r ≡ record { token = T.Fault w; next = n } → t ≡ begins ∷ faults w ∷ []
+pub faulted : {t : List Token} {s : List ℕ} {from : ℕ} (w : Fault) (n : ℕ) {r : Lexed} → r ≡ record { token = T.Fault w; next = n } → t ≡ begins ∷ faults w ∷ []
     → from ≤ n → n ≤ length s → Lexes t s from r
 faulted w n e m a i = answered (T.Fault w) n e (inr m) a i
 
@@ -215,6 +215,10 @@ takes-after t t′ s a b r e h q =
       further = λ n. let k = q .further n in omega arith;
       inside = q .inside;
     }
+
+-- a blank is not the end
+pub blank-not-end : (t : Lexer.Token) → t ≡ T.Blank → t ≡ T.End → ⊥
+blank-not-end t b e = let k : T.Blank ≡ T.End = sym b ∙ e in let z : _≡_ {A = ℕ} 0 1 = cc in omega arith
 
 -- what `answer` gives, and what `fault` gives, where a token begins at a place
 pub takes-as : {t : List Token} {s : List ℕ} {from : ℕ} (k : Lexer.Token) (n : ℕ) {r : Lexed} → r ≡ record { token = k; next = n } → Means s k t (tokens (drop n s) idle)
@@ -255,8 +259,8 @@ skipping-none s from = record { after = omega arith; inside = λ k. absurd (omeg
 
 -- ── a number that is refused ────────────────────────────────────────────────────────────────────
 
-pub number-refused : {s : List ℕ} {from : ℕ} (f : Form) (n : Number) (w k : Refusal) {r : Lexed} → NumberIs s f from n → n ≡ N.Refused w → k ≡ refusalOf n
+pub number-refused : {s : List ℕ} {from : ℕ} (f : Form) (n : Number) (w k : Fault) {r : Lexed} → NumberIs s f from n → n ≡ N.Refused w → k ≡ faultOf n
     → r ≡ record { token = T.Fault k; next = from } → from ≤ length s → Lexes (begins ∷ tokens (drop from s) (number f 0 0)) s from r
 number-refused {s} {from} f n w k q e g h i =
     let t = subst (NumberIs s f from) e q in
-    faulted k from h (ap (λ t. begins ∷ t) (t ∙ ap (λ r. faults r ∷ []) (sym (g ∙ ap refusalOf e)))) (omega arith) i
+    faulted k from h (ap (λ t. begins ∷ t) (t ∙ ap (λ r. faults r ∷ []) (sym (g ∙ ap faultOf e)))) (omega arith) i

@@ -120,20 +120,20 @@ sorted-as b r k h e f = subst (λ k. Sorted k b) (sym e ∙ f) (sorted b h)
 -- ── what stands around the outermost expression ─────────────────────────────────────────────────
 
 -- a class that is not skipped between marks
-abbrev pub isMark : Class → Bool
-isMark blank = false
-isMark quote = false
-isMark opening = true
-isMark closing = true
-isMark semicolon = true
-isMark point = true
-isMark (operating o) = true
-isMark (accessing a) = true
-isMark (comparing c) = true
-isMark (calling a) = true
-isMark dollar = true
-isMark tick = true
-isMark stray = true
+abbrev pub isPermission : Class → Bool
+isPermission blank = false
+isPermission quote = false
+isPermission opening = true
+isPermission closing = true
+isPermission semicolon = true
+isPermission point = true
+isPermission (operating o) = true
+isPermission (accessing a) = true
+isPermission (comparing c) = true
+isPermission (calling a) = true
+isPermission dollar = true
+isPermission tick = true
+isPermission stray = true
 
 abbrev isOpening : Class → Bool
 isOpening blank = false
@@ -152,7 +152,7 @@ isOpening stray = false
 
 -- such a class other than the `(`
 abbrev pub isOther : Class → Bool
-isOther c = cond (isOpening c) false (isMark c)
+isOther c = cond (isOpening c) false (isPermission c)
 
 else-right : (a x : Bool) → T (either a x) → a ≡ false → T x
 else-right true x t e = absurd (subst (λ (b : Bool). T b) e t)
@@ -160,13 +160,13 @@ else-right false x t e = t
 
 module _ (b : ℕ) (h : b < 256) (i : Inked b) where
   -- a byte that is not skipped is of such a class
-  pub a-mark : T (isMark (class b))
+  pub a-mark : T (isPermission (class b))
   unfolding class
   a-mark =
       else-right (eqb b quoteByte) _
       (else-right (eqb b newlineByte) _
       (else-right (eqb b blankByte) _
-      (in-range (λ (b : ℕ). either (eqb b blankByte) (either (eqb b newlineByte) (either (eqb b quoteByte) (isMark (class b))))) 0 256 tt b (omega arith) (omega arith))
+      (in-range (λ (b : ℕ). either (eqb b blankByte) (either (eqb b newlineByte) (either (eqb b quoteByte) (isPermission (class b))))) 0 256 tt b (omega arith) (omega arith))
       (ne-eqb b blankByte (i .no-blank)))
       (ne-eqb b newlineByte (i .no-newline)))
       (ne-eqb b quoteByte (i .no-quote))

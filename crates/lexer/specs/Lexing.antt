@@ -6,8 +6,8 @@ use mathlib.Core.Logic.{_⊎_}
 use Prim.Native.Nat.{ℕ, suc, _+_, _^_, _≤_, _<_}
 use lib.ListN.{length, getD, take, drop}
 use lib.Dec.{eqb}
-use Rattle.language.specs.declared.Refusal.{Refusal}
-use Rattle.language.specs.declared.Refusal.the-variants.{StrayMark}
+use Rattle.language.specs.declared.Fault.{Fault}
+use Rattle.language.specs.declared.Fault.the-variants.{StrayMark}
 use Rattle.language.specs.Syntax.{operatorByte, accessByte, conditionByte, operator, variable, constant, print}
 use Rattle.language.specs.Tokens.{Token, opens, closes, semis, colons, begins, ends, does, asks, counts, calls, faults}
 use Rattle.language.specs.Between.{between}
@@ -74,9 +74,9 @@ kindOf b = kindRanked (byteRank b)
 -- ── a number ────────────────────────────────────────────────────────────────────────────────────
 
 -- `StrayMark` where there is none
-abbrev pub refusalOf : Number → Refusal
-refusalOf (Value v n) = StrayMark
-refusalOf (Refused r) = r
+abbrev pub faultOf : Number → Fault
+faultOf (Value v n) = StrayMark
+faultOf (Refused r) = r
 
 -- place `from` is in the text s, so many digits fit the code's number, and the closing byte comes before the digits
 pub record Countable (s : List ℕ) (from most close : ℕ) : Type 0 where
@@ -99,9 +99,9 @@ NumberIs s f from (Refused r) = tokens (drop from s) (number f 0 0) ≡ faults r
 -- ── what is skipped between marks ───────────────────────────────────────────────────────────────
 
 -- `StrayMark` where there is none
-abbrev pub skipRefusal : Skipped → Refusal
-skipRefusal (S.To n) = StrayMark
-skipRefusal (S.Refused r) = r
+abbrev pub skipFault : Skipped → Fault
+skipFault (S.To n) = StrayMark
+skipFault (S.Refused r) = r
 
 -- from place `from` of the text s to place n, where the tokens are t
 pub record SkipsTo (t : List Token) (s : List ℕ) (from n : ℕ) : Type 0 where

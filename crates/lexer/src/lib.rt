@@ -7,8 +7,8 @@ ghost use Rattle.language.specs.Syntax.{Access, accessByte};
 ghost use Rattle.language.specs.Tokens.{begins, idle, comment, after-tick, after-access, number, printing, tokens};
 ghost use Rattle.language.specs.Tokens.{Form, counterForm, constantForm, mostDigits, closingByte, formFault};
 ghost use Rattle.lexer.specs.declared.Token.the-variants as T;
-ghost use Rattle.lexer.specs.Lexing.{kindOf, refusalOf, Countable, NumberIs, skipRefusal, Skips, StepsOver, SkipsOver, Lexes, Takes};
-use language::Refusal;
+ghost use Rattle.lexer.specs.Lexing.{kindOf, faultOf, Countable, NumberIs, skipFault, Skips, StepsOver, SkipsOver, Lexes, Takes};
+use language::Fault;
 use numerals::DIGITS;
 
 // "Counter: `$`, 1 to 4 digits, `$`"
@@ -40,7 +40,7 @@ pub enum Kind {
 pub enum Token {
     Blank,
     End,
-    Fault(Refusal),
+    Fault(Fault),
     Open,
     Close,
     Semicolon,
@@ -63,13 +63,13 @@ pub struct Lexed {
 // A place after what is skipped between marks, or the refusal.
 pub enum Skipped {
     To(usize),
-    Refused(Refusal),
+    Refused(Fault),
 }
 
 // What the reader of numbers answers: a value and the place after its closing byte, or the refusal.
 pub enum Number {
     Value(u32, usize),
-    Refused(Refusal),
+    Refused(Fault),
 }
 
 // A token and the place after it.
@@ -80,7 +80,7 @@ fn answer(token: Token, next: usize) -> Lexed
 }
 
 // The same for a fault.
-fn fault(why: Refusal, next: usize) -> Lexed
+fn fault(why: Fault, next: usize) -> Lexed
     ensures { λ r. ⌜ r ≡ record { token = T.Fault why; next = next } ⌝ }
 {
     Lexed {
@@ -120,17 +120,17 @@ fn wide(x: u8) -> u32
 }
 
 // The refusal of a number that is refused.
-fn refusal(n: Number) -> Refusal
-    ensures { λ r. ⌜ r ≡ refusalOf n ⌝ }
+fn fault_of(n: Number) -> Fault
+    ensures { λ r. ⌜ r ≡ faultOf n ⌝ }
 {
     match n {
-        Number::Value(_, _) => Refusal::StrayMark,
+        Number::Value(_, _) => Fault::StrayMark,
         Number::Refused(r) => r,
     }
 }
 
 // 1 to `most` digits and then the byte `close`.
-fn digits(text: &[u8], from: usize, most: usize, close: u8, fault: Refusal) -> Number
+fn digits(text: &[u8], from: usize, most: usize, close: u8, fault: Fault) -> Number
     requires { ⌜ Countable (now text) from most close ⌝ }
     ensures { λ r. ⌜ ((f : Form) → mostDigits f ≡ most → closingByte f ≡ close → formFault f ≡ fault → NumberIs (now (text .entry)) f from r) ⌝ }
 {
@@ -158,7 +158,7 @@ fn digits(text: &[u8], from: usize, most: usize, close: u8, fault: Refusal) -> N
         n += 1;
         i += 1;
     }
-    Number::Refused(Refusal::Unfinished)
+    Number::Refused(Fault::Unfinished)
 }
 
 // After the `"` that opens a comment.
@@ -174,23 +174,23 @@ fn comment(text: &[u8], from: usize) -> Skipped
         }
         if b < b' ' {
             if b != b'\n' {
-                return Skipped::Refused(Refusal::StrayMark);
+                return Skipped::Refused(Fault::StrayMark);
             }
         }
         if b'~' < b {
-            return Skipped::Refused(Refusal::StrayMark);
+            return Skipped::Refused(Fault::StrayMark);
         }
         i += 1;
     }
-    Skipped::Refused(Refusal::Unfinished)
+    Skipped::Refused(Fault::Unfinished)
 }
 
 // The refusal of what could not be skipped.
-pub fn skip_refusal(s: Skipped) -> Refusal
-    ensures { λ r. ⌜ r ≡ skipRefusal s ⌝ }
+pub fn skip_fault(s: Skipped) -> Fault
+    ensures { λ r. ⌜ r ≡ skipFault s ⌝ }
 {
     match s {
-        Skipped::To(_) => Refusal::StrayMark,
+        Skipped::To(_) => Fault::StrayMark,
         Skipped::Refused(r) => r,
     }
 }
@@ -249,13 +249,13 @@ fn variable(text: &[u8], at: usize, b: u8) -> Lexed
     ensures { λ r. ⌜ ((a : Access) → accessByte a ≡ b → Lexes (begins ∷ tokens (drop at (now (text .entry))) (after-access a)) (now (text .entry)) at r) ⌝ }
 {
     if text.len() <= at {
-        return fault(Refusal::Unfinished, at);
+        return fault(Fault::Unfinished, at);
     }
     let d = text[at];
     match d {
         b'0' => answer(Token::Variable(b, ZERO_AS), at + 1),
         b'1'..=b'9' => answer(Token::Variable(b, d - b'0'), at + 1),
-        _ => fault(Refusal::StrayMark, at),
+        _ => fault(Fault::StrayMark, at),
     }
 }
 
@@ -264,12 +264,12 @@ fn counter(text: &[u8], from: usize) -> Lexed
     requires { ⌜ from ≤ length (now text) ⌝ }
     ensures { λ r. ⌜ Lexes (begins ∷ tokens (drop from (now (text .entry))) (number counterForm 0 0)) (now (text .entry)) from r ⌝ }
 {
-    let n = digits(text, from, COUNTER_DIGITS, b'$', Refusal::BadCounter);
+    let n = digits(text, from, COUNTER_DIGITS, b'$', Fault::BadCounter);
     let Number::Value(value, next) = n else {
-        return fault(refusal(n), from);
+        return fault(fault_of(n), from);
     };
     if value == 0 {
-        return fault(Refusal::BadCounter, from);
+        return fault(Fault::BadCounter, from);
     }
     answer(Token::Counter(value), next)
 }
@@ -279,9 +279,9 @@ fn constant(text: &[u8], from: usize, minus: bool) -> Lexed
     requires { ⌜ from ≤ length (now text) ⌝ }
     ensures { λ r. ⌜ Lexes (begins ∷ tokens (drop from (now (text .entry))) (number (constantForm minus) 0 0)) (now (text .entry)) from r ⌝ }
 {
-    let n = digits(text, from, DIGITS, b'\'', Refusal::BadConstant);
+    let n = digits(text, from, DIGITS, b'\'', Fault::BadConstant);
     let Number::Value(value, next) = n else {
-        return fault(refusal(n), from);
+        return fault(fault_of(n), from);
     };
     if minus {
         return answer(Token::Constant(0 - value as i32), next);
@@ -301,14 +301,14 @@ fn print(text: &[u8], from: usize) -> Lexed
             return answer(Token::Print(from, i - from), i + 1);
         }
         if b < b' ' {
-            return fault(Refusal::StrayMark, i);
+            return fault(Fault::StrayMark, i);
         }
         if b'~' < b {
-            return fault(Refusal::StrayMark, i);
+            return fault(Fault::StrayMark, i);
         }
         i += 1;
     }
-    fault(Refusal::Unfinished, i)
+    fault(Fault::Unfinished, i)
 }
 
 // After a `'`: a print or a constant.
@@ -317,18 +317,18 @@ fn quoted(text: &[u8], at: usize) -> Lexed
     ensures { λ r. ⌜ Lexes (begins ∷ tokens (drop at (now (text .entry))) after-tick) (now (text .entry)) at r ⌝ }
 {
     if text.len() <= at {
-        return fault(Refusal::Unfinished, at);
+        return fault(Fault::Unfinished, at);
     }
     let b = text[at];
     if b == b'\'' {
         return print(text, at + 1);
     }
     if b != b'/' {
-        return fault(Refusal::StrayMark, at);
+        return fault(Fault::StrayMark, at);
     }
     let from = at + 1;
     if text.len() <= from {
-        return fault(Refusal::Unfinished, at);
+        return fault(Fault::Unfinished, at);
     }
     if text[from] == b'-' {
         return constant(text, from + 1, true);
@@ -359,8 +359,8 @@ fn token_at(text: &[u8], at: usize) -> Lexed
         Kind::Letter => answer(Token::Call(b), next),
         Kind::Dollar => counter(text, next),
         Kind::Tick => quoted(text, next),
-        Kind::Digit => fault(Refusal::StrayMark, next),
-        Kind::Stray => fault(Refusal::StrayMark, next),
+        Kind::Digit => fault(Fault::StrayMark, next),
+        Kind::Stray => fault(Fault::StrayMark, next),
     }
 }
 

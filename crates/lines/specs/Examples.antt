@@ -5,10 +5,8 @@ use Prim.Native.String.{String}
 use mathlib.Core.List.{List, [], _∷_, _++_, map}
 use lib.IntN.{pos}
 use lib.ListN.{replicate}
-use Rattle.language.specs.declared.Refusal.the-variants.{BadLine}
-use Rattle.language.specs.Answers.{refusalNumber}
 use Rattle.language.specs.Trials.{bytes, times, neg}
-use Rattle.lines.specs.Lines.{Request, define, withdraw, run, bad, request}
+use Rattle.lines.specs.Lines.{badLine, Request, define, withdraw, run, bad, request}
 
 -- the request of a line, or the number that it is refused with
 pub data Answer : Type 0 where
@@ -20,7 +18,7 @@ abbrev pub answerOf : Request → Answer
 answerOf (define l t) = asks (define l t)
 answerOf (withdraw l) = asks (withdraw l)
 answerOf (run l a x) = asks (run l a x)
-answerOf bad = refusedAs (refusalNumber BadLine)
+answerOf bad = refusedAs badLine
 
 -- a line with its answer
 pub record Example : Type 0 where

@@ -17,6 +17,10 @@ maxLine = 300
 abbrev pub maxInputs : ℕ
 maxInputs = 64
 
+-- "14 bad line: a desk line breaks its form"
+abbrev pub badLine : ℕ
+badLine = 14
+
 -- the byte of `D`
 abbrev pub defineByte : ℕ
 defineByte = 68

@@ -15,6 +15,9 @@ pub const LINE: usize = 300;
 // Inputs "at most 64".
 pub const INPUTS: usize = 64;
 
+// "14 bad line: a desk line breaks its form"
+pub const BAD_LINE: u32 = 14;
+
 // The place after a line's letter.
 const LETTER_END: usize = 3;
 

@@ -1,1 +1,3 @@
 pub mod LinkedText
+pub mod Into
+pub mod Examples

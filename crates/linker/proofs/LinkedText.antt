@@ -7,9 +7,9 @@ use lib.ListN.{length, getD, drop}
 use lib.Dec.{T}
 use borrow.Author.Tests.{le-leb, lt-leb}
 use Rattle.language.specs.Limits.{maxText}
-use Rattle.language.specs.Answers.{refusalNumber}
-use Rattle.language.specs.declared.Refusal.{Refusal}
-use Rattle.language.specs.declared.Refusal.the-variants.{LongText, StrayMark, Unfinished}
+use Rattle.language.specs.Answers.{faultNumber}
+use Rattle.language.specs.declared.Fault.{Fault}
+use Rattle.language.specs.declared.Fault.the-variants.{LongText, StrayMark, Unfinished}
 use Rattle.language.specs.Syntax.{Expr}
 use Rattle.language.specs.Tokens.{Token, faults, Class, blank, quote, opening, closing, semicolon, point, dollar, tick, stray, operating, accessing, comparing, calling, class}
 use Rattle.language.specs.Tokens.{Mode, idle, first, finish, tokens}
@@ -22,8 +22,8 @@ use Rattle.language.specs.Bytes.{openByte}
 use Rattle.linker.specs.Linked.{linked}
 use Rattle.assembler.specs.Exits.{linkedCells, Fillable}
 use Rattle.assembler.specs.Scanning.{parsedFrom, Scans, stops, ends}
-use Rattle.language.proofs.Answers.{refusal-not-zero}
-use Rattle.lexer.proofs.LexingSorts.{isMark, isOther, a-mark, no-opening, the-opening}
+use Rattle.language.proofs.Answers.{fault-not-zero}
+use Rattle.lexer.proofs.LexingSorts.{isPermission, isOther, a-mark, no-opening, the-opening}
 use Rattle.lexer.proofs.Lexing.{tokens-end, tokens-first}
 
 -- a refusal by its number
@@ -40,7 +40,7 @@ read-short : (s : List ℕ) → length s ≤ maxText → read s ≡ parse (token
 unfolding read require
 read-short s h = simp (le-leb (length s) maxText h)
 
-pub link-long : (s : List ℕ) → maxText < length s → linked (read s) ≡ refusedAs (refusalNumber LongText)
+pub link-long : (s : List ℕ) → maxText < length s → linked (read s) ≡ refusedAs (faultNumber LongText)
 link-long s h = ap linked (read-long s h)
 
 -- ── before the outermost `(` and after the last `)` ─────────────────────────────────────────────
@@ -61,7 +61,7 @@ stray-before dollar k t = refl
 stray-before tick k t = refl
 stray-before stray k t = refl
 
-stray-after : (c : Class) (k : Mode → List Token) (w : Expr) → T (isMark c) → parse (first c k) (whole w) ≡ refused StrayMark
+stray-after : (c : Class) (k : Mode → List Token) (w : Expr) → T (isPermission c) → parse (first c k) (whole w) ≡ refused StrayMark
 unfolding first parse ending
 stray-after blank k w t = absurd t
 stray-after quote k w t = absurd t
@@ -77,11 +77,11 @@ stray-after dollar k w t = refl
 stray-after tick k w t = refl
 stray-after stray k w t = refl
 
-before-fault : (t : List Token) (r : Refusal) → t ≡ faults r ∷ [] → parse t outside ≡ refused r
+before-fault : (t : List Token) (r : Fault) → t ≡ faults r ∷ [] → parse t outside ≡ refused r
 unfolding parse starting
 before-fault t r e = ap (λ t. parse t outside) e
 
-after-fault : (t : List Token) (r : Refusal) (w : Expr) → t ≡ faults r ∷ [] → parse t (whole w) ≡ refused r
+after-fault : (t : List Token) (r : Fault) (w : Expr) → t ≡ faults r ∷ [] → parse t (whole w) ≡ refused r
 unfolding parse ending
 after-fault t r w e = ap (λ t. parse t (whole w)) e
 
@@ -111,18 +111,18 @@ module _ (s : List ℕ) (i : ℕ) (h : i < length s) (byte : getD s i 0 < 256) (
 -- ── up to the outermost `(` ─────────────────────────────────────────────────────────────────────
 
 module _ (s : List ℕ) (short : length s ≤ maxText) where
-  pub link-unskipped : (r : Refusal) → tokens s idle ≡ faults r ∷ [] → linked (read s) ≡ refusedAs (refusalNumber r)
+  pub link-unskipped : (r : Fault) → tokens s idle ≡ faults r ∷ [] → linked (read s) ≡ refusedAs (faultNumber r)
   link-unskipped r e = ap linked (read-short s short ∙ before-fault (tokens s idle) r e)
 
   module _ (i : ℕ) (skipped : tokens s idle ≡ tokens (drop i s) idle) where
     read-at : read s ≡ parse (tokens (drop i s) idle) outside
     read-at = read-short s short ∙ ap (λ t. parse t outside) skipped
 
-    pub link-empty : length s ≤ i → linked (read s) ≡ refusedAs (refusalNumber Unfinished)
+    pub link-empty : length s ≤ i → linked (read s) ≡ refusedAs (faultNumber Unfinished)
     link-empty h = ap linked (read-at ∙ before-end s i h)
 
     module _ (h : i < length s) (byte : getD s i 0 < 256) (mark : MarkAt s i) where
-      pub link-stray : (getD s i 0 ≡ openByte → ⊥) → linked (read s) ≡ refusedAs (refusalNumber StrayMark)
+      pub link-stray : (getD s i 0 ≡ openByte → ⊥) → linked (read s) ≡ refusedAs (faultNumber StrayMark)
       link-stray n = ap linked (read-at ∙ before-stray s i h byte mark n)
 
       pub link-inside : getD s i 0 ≡ openByte → linked (read s) ≡ linked (parsedFrom s (i + 1))
@@ -135,20 +135,20 @@ module _ (s : List ℕ) (from : ℕ) (z : Scanned) (C : List ℤ) (K L : List �
   link-stopped (stops why p k) n = ap linked p ∙ ap refusedAs (sym k)
   link-stopped (ends w p k r) n = absurd (n k)
 
-  pub link-unskipped-after : Scans s from z C K L → z .pass .fault ≡ 0 → (r : Refusal) → tokens (drop (z .next) s) idle ≡ faults r ∷ []
-      → linked (parsedFrom s from) ≡ refusedAs (refusalNumber r)
-  link-unskipped-after (stops why p k) e r q = absurd (refusal-not-zero why (sym k ∙ e))
+  pub link-unskipped-after : Scans s from z C K L → z .pass .fault ≡ 0 → (r : Fault) → tokens (drop (z .next) s) idle ≡ faults r ∷ []
+      → linked (parsedFrom s from) ≡ refusedAs (faultNumber r)
+  link-unskipped-after (stops why p k) e r q = absurd (fault-not-zero why (sym k ∙ e))
   link-unskipped-after (ends w p k x) e r q = ap linked (p ∙ after-fault _ r w q)
 
   module _ (j : ℕ) (skipped-after : tokens (drop (z .next) s) idle ≡ tokens (drop j s) idle) where
     pub link-stray-after : Scans s from z C K L → z .pass .fault ≡ 0 → j < length s → getD s j 0 < 256 → MarkAt s j
-        → linked (parsedFrom s from) ≡ refusedAs (refusalNumber StrayMark)
-    link-stray-after (stops why p k) e l b m = absurd (refusal-not-zero why (sym k ∙ e))
+        → linked (parsedFrom s from) ≡ refusedAs (faultNumber StrayMark)
+    link-stray-after (stops why p k) e l b m = absurd (fault-not-zero why (sym k ∙ e))
     link-stray-after (ends w p k r) e l b m = ap linked (p ∙ ap (λ t. parse t (whole w)) skipped-after ∙ after-stray s j l b m w)
 
     pub link-whole : Scans s from z C K L → z .pass .fault ≡ 0 → length s ≤ j → (cells : List ℤ) → cells ≡ linkedCells C K L (z .pass .used)
         → record { number = 0; table = record { used = z .pass .used; cells = cells } } ≡ linked (parsedFrom s from)
-    link-whole (stops why p k) e l cells c = absurd (refusal-not-zero why (sym k ∙ e))
+    link-whole (stops why p k) e l cells c = absurd (fault-not-zero why (sym k ∙ e))
     link-whole (ends w p k r) e l cells c =
         sym
         (ap linked (p ∙ ap (λ t. parse t (whole w)) skipped-after ∙ after-end s j w l)
@@ -157,5 +157,5 @@ module _ (s : List ℕ) (from : ℕ) (z : Scanned) (C : List ℤ) (K L : List �
 
   -- what the scan leaves for the second pass
   pub scanned-ready : Scans s from z C K L → z .pass .fault ≡ 0 → Fillable (z .pass .used) L
-  scanned-ready (stops why p k) e = absurd (refusal-not-zero why (sym k ∙ e))
+  scanned-ready (stops why p k) e = absurd (fault-not-zero why (sym k ∙ e))
   scanned-ready (ends w p k r) e = record { small = r .small; shallow = r .shallow }

@@ -1,1 +1,3 @@
 pub mod Linked
+pub mod Into
+pub mod Examples

@@ -22,7 +22,7 @@ pub record Held : Type 0 where
   pub machine : Machine
   pub cells : List ℤ
   pub used : List ℕ
-  pub marks : List ℕ
+  pub permissions : List ℕ
   pub role : ℕ
   pub inputs : List ℤ
   pub frames : List ℕ
@@ -34,7 +34,7 @@ pub record Held : Type 0 where
 -- all of it from its parts
 abbrev pub held : Machine → List ℤ → List ℕ → List ℕ → ℕ → List ℤ → List ℕ → List ℕ → List ℤ → List ℤ → List ℕ → Held
 held m c u k r i f n v l o =
-    record { machine = m; cells = c; used = u; marks = k; role = r; inputs = i; frames = f; counts = n; variables = v; stack = l; output = o }
+    record { machine = m; cells = c; used = u; permissions = k; role = r; inputs = i; frames = f; counts = n; variables = v; stack = l; output = o }
 
 -- ── where the machine stands ────────────────────────────────────────────────────────────────────
 
@@ -101,11 +101,11 @@ outcome h = turned (h .machine .state) (spotOf h)
 
 -- nothing else
 abbrev pub onMachine : Machine → Held → Held
-onMachine m h = held m (h .cells) (h .used) (h .marks) (h .role) (h .inputs) (h .frames) (h .counts) (h .variables) (h .stack) (h .output)
+onMachine m h = held m (h .cells) (h .used) (h .permissions) (h .role) (h .inputs) (h .frames) (h .counts) (h .variables) (h .stack) (h .output)
 
 -- the open calls
 abbrev pub framed : Machine → List ℕ → Held → Held
-framed m f h = held m (h .cells) (h .used) (h .marks) (h .role) (h .inputs) f (h .counts) (h .variables) (h .stack) (h .output)
+framed m f h = held m (h .cells) (h .used) (h .permissions) (h .role) (h .inputs) f (h .counts) (h .variables) (h .stack) (h .output)
 
 -- the store's used-cell counts and marks, the caller's role and the open calls
 abbrev pub called : Machine → List ℕ → List ℕ → ℕ → List ℕ → Held → Held
@@ -113,27 +113,27 @@ called m u k r f h = held m (h .cells) u k r (h .inputs) f (h .counts) (h .varia
 
 -- the counters' counts
 abbrev pub counting : Machine → List ℕ → Held → Held
-counting m n h = held m (h .cells) (h .used) (h .marks) (h .role) (h .inputs) (h .frames) n (h .variables) (h .stack) (h .output)
+counting m n h = held m (h .cells) (h .used) (h .permissions) (h .role) (h .inputs) (h .frames) n (h .variables) (h .stack) (h .output)
 
 -- the stack
 abbrev pub stacked : Machine → List ℤ → Held → Held
-stacked m l h = held m (h .cells) (h .used) (h .marks) (h .role) (h .inputs) (h .frames) (h .counts) (h .variables) l (h .output)
+stacked m l h = held m (h .cells) (h .used) (h .permissions) (h .role) (h .inputs) (h .frames) (h .counts) (h .variables) l (h .output)
 
 -- the inputs and the stack
 abbrev pub fed : Machine → List ℤ → List ℤ → Held → Held
-fed m i l h = held m (h .cells) (h .used) (h .marks) (h .role) i (h .frames) (h .counts) (h .variables) l (h .output)
+fed m i l h = held m (h .cells) (h .used) (h .permissions) (h .role) i (h .frames) (h .counts) (h .variables) l (h .output)
 
 -- the variables and the stack
 abbrev pub storing : Machine → List ℤ → List ℤ → Held → Held
-storing m v l h = held m (h .cells) (h .used) (h .marks) (h .role) (h .inputs) (h .frames) (h .counts) v l (h .output)
+storing m v l h = held m (h .cells) (h .used) (h .permissions) (h .role) (h .inputs) (h .frames) (h .counts) v l (h .output)
 
 -- the output
 abbrev pub printing : Machine → List ℕ → Held → Held
-printing m o h = held m (h .cells) (h .used) (h .marks) (h .role) (h .inputs) (h .frames) (h .counts) (h .variables) (h .stack) o
+printing m o h = held m (h .cells) (h .used) (h .permissions) (h .role) (h .inputs) (h .frames) (h .counts) (h .variables) (h .stack) o
 
 -- the stack and the output
 abbrev pub writing : Machine → List ℤ → List ℕ → Held → Held
-writing m l o h = held m (h .cells) (h .used) (h .marks) (h .role) (h .inputs) (h .frames) (h .counts) (h .variables) l o
+writing m l o h = held m (h .cells) (h .used) (h .permissions) (h .role) (h .inputs) (h .frames) (h .counts) (h .variables) l o
 
 -- ── the machine's numbers ───────────────────────────────────────────────────────────────────────
 

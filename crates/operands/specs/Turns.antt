@@ -17,7 +17,7 @@ Turns next before after = (h : Held) → outcome (after h) ≡ next (before h)
 
 -- a turn where the due cell decodes so
 abbrev pub decodedAs : Decoded → Held → Turn
-decodedAs d h = decodedTurn (standsAt (h .used)) (barredAt (h .marks) (h .role)) d (spotOf h)
+decodedAs d h = decodedTurn (standsAt (h .used)) (barredAt (h .permissions) (h .role)) d (spotOf h)
 
 -- a turn where the table's due cell holds a mark of this kind; the table's cells start at `base`, and `end` is its used-cell count
 abbrev pub markAt : List ℤ → ℕ → ℕ → Kind → Held → Turn

@@ -8,12 +8,10 @@ use native.Mathlib.Omega.{arith}
 use lib.IntN.{ℤ}
 use lib.Dec.{eqb}
 use borrow.Author.Tests.{not-true}
-use Rattle.language.specs.declared.Refusal.{Refusal}
-use Rattle.language.specs.declared.Refusal.the-variants.{NoSuchLetter, NotStanding, BadStore}
 use Rattle.language.specs.declared.Ending.{Ending}
 use Rattle.language.specs.declared.Ending.the-variants.{Damaged}
-use Rattle.language.specs.Answers.{refusalNumber, isRefusal, endingNumber}
-use Rattle.language.specs.Roles.{letterMark}
+use Rattle.language.specs.Answers.{endingNumber}
+use Rattle.language.specs.Roles.{permissionAt}
 use Rattle.language.specs.Limits.{maxLetters}
 use Rattle.language.specs.Letters.{isLetter, letterIndex}
 use Rattle.language.specs.Syntax.{Expr}
@@ -22,19 +20,22 @@ use Rattle.language.specs.Effects.{State, start}
 use Rattle.language.specs.Meaning.{Outcome, ended, stopped, meaning}
 use Rattle.language.specs.Tables.{standsAt}
 use Rattle.language.specs.Statements.{Holds}
-use Rattle.language.proofs.Answers.{refusal-refuses, refusal-not-zero}
 use Rattle.language.proofs.Letters.{letter-lt}
 use Rattle.language.proofs.MeaningEndings.{Common, AllCalls, StopsSo, stops-meaning}
 use Rattle.language.proofs.Tests.{both-true, first-true, second-true}
-use Rattle.book.specs.Calls.{Run, Call, runs}
+use Rattle.book.specs.Calls.{Run, runs}
 use Rattle.book.specs.Replies.{Reply, reported, tells}
-use Rattle.book.specs.Refusals.{refusal, answer}
-use Rattle.book.specs.Book.{Book, freshBook, textOf, isText, obeyed, bookRan, bookAccepts, bookCall}
+use Rattle.book.specs.declared.Refusal.{Refusal}
+use Rattle.book.specs.declared.Refusal.the-variants.{NoSuchLetter, NotStanding, BadStore}
+use Rattle.book.specs.Refusals.{refusalNumber, isRefusal, refusal, answer}
+use Rattle.book.specs.Book.{Book, freshBook, textOf, isText, obeyed, bookRan, bookAccepts, bookView, bookCall}
 use Rattle.book.specs.Store.{Store, freshStore, entryAt, soundStore, storeCall}
-use Rattle.book.specs.History.{after, storeAfter}
-use Rattle.book.proofs.Refusals.{free-letter, free-run}
-use Rattle.book.proofs.History.{Agree, agree-sound, agree-fresh, both-call}
-use Rattle.book.proofs.HistoryStanding.{agree-after}
+use Rattle.book.specs.Events.{Event, asked, theBook}
+use Rattle.book.specs.Sessions.{after}
+use Rattle.book.specs.Demand3.{Always}
+use Rattle.book.proofs.Refusals.{refusal-refuses, refusal-not-zero, free-letter, free-run}
+use Rattle.book.proofs.History.{Agree, agree-sound, agree-fresh, both-call, agree-after}
+use Rattle.book.proofs.Demand3.{history, always}
 use Rattle.reach.specs.Reach.{member, calls, Reaches, isMarked, eachOf, readable, reachedBy, missingOf, Report, reports, reach}
 use Rattle.reach.specs.Claims.{ReachedExactly, MissingExactly, RefusalKeeps, Warns, EndsNoText, NeverDamaged}
 use Rattle.reach.proofs.Marks.{marked-by, marked-letter}
@@ -159,9 +160,9 @@ module _ (st : Store) (b : Book) (ag : Agree st b) where
 
   -- a run of letter k that ends 27
   lacks-meaning : (k : ℕ) (w : Expr) → texts k ≡ some w → (c g d n : ℕ) (s : State)
-      → StopsSo (λ e. endingNumber e ≡ 27 → Lacks st k) (meaning texts (letterMark (b .marks)) c g k w d s n)
+      → StopsSo (λ e. endingNumber e ≡ 27 → Lacks st k) (meaning texts (permissionAt (b .permissions)) c g k w d s n)
   lacks-meaning k w e c g d n s =
-      stops-meaning (λ x. endingNumber x ≡ 27 → Lacks st k) (Reaches st k) texts (letterMark (b .marks)) c (λ x h z. absurd (common-other x h z)) (λ a v r f. calls-reached k a v r f)
+      stops-meaning (λ x. endingNumber x ≡ 27 → Lacks st k) (Reaches st k) texts (permissionAt (b .permissions)) c (λ x h z. absurd (common-other x h z)) (λ a v r f. calls-reached k a v r f)
       (λ a r f _. record { letter = a; reached = r; textless = unwritten st a (holds-at a none f) })
       g k w d s n (calls-reached k k w (reaches-itself st k) e)
 
@@ -191,22 +192,21 @@ module _ (st : Store) (b : Book) (ag : Agree st b) where
         stands = stands-text k w e;
         lacks =
             lacks-reported (b .variables) (x .allowance) k
-            (meaning texts (letterMark (b .marks)) (x .role) (suc (x .allowance)) k w 0 (start (b .variables) (x .inputs) (x .output)) (x .allowance))
+            (meaning texts (permissionAt (b .permissions)) (x .role) (suc (x .allowance)) k w 0 (start (b .variables) (x .inputs) (x .output)) (x .allowance))
             (lacks-meaning k w e (x .role) (suc (x .allowance)) 0 (x .allowance) (start (b .variables) (x .inputs) (x .output))) z;
       }
 
-  blocked-answer : (x : Run) (o : Option Refusal) → refusal true (λ a. isText (texts a)) (letterMark (b .marks)) (runs x) ≡ o
+  blocked-answer : (x : Run) (o : Option Refusal) → refusal (bookView b) (runs x) ≡ o
       → answer o b (b .variables) (runs x) (bookAccepts b (runs x)) .reply .report .number ≡ 27 → Blocked (x .letter)
   unfolding answer tells bookAccepts bookRan
   blocked-answer x (some r) e z = absurd (false≢true (sym (ap isRefusal z) ∙ refusal-refuses r))
   blocked-answer x none e z =
-      let has : ℕ → Bool = λ a. isText (texts a) in
-      blocked-text x (free-letter true has (letterMark (b .marks)) (runs x) e) (texts (letterIndex (x .letter))) refl (free-run true has (letterMark (b .marks)) x e .standing) z
+      blocked-text x (free-letter (bookView b) (runs x) e) (texts (letterIndex (x .letter))) refl (free-run (bookView b) x e .standing) z
 
   blocked : (x : Run) → storeCall st (runs x) .reply .report .number ≡ 27 → Blocked (x .letter)
   unfolding bookCall
   blocked x z =
-      blocked-answer x (refusal true (λ a. isText (texts a)) (letterMark (b .marks)) (runs x)) refl
+      blocked-answer x (refusal (bookView b) (runs x)) refl
       (sym (ap (λ (r : Reply). r .report .number) (both-call st b (runs x) ag .reply)) ∙ z)
 
   -- the report of a letter that stands
@@ -242,12 +242,18 @@ module _ (st : Store) (b : Book) (ag : Agree st b) where
       on-letter true e = on-standing e (standsAt (st .used) (letterIndex l)) refl
       on-letter false e = is 1 (letter-refused st l r m (agree-sound st b ag) e) (λ q. omega arith) (λ q. omega arith)
 
--- the book that the calls leave agrees with the store that they leave
-agreed : (cs : List Call) → Agree (storeAfter freshStore cs) (after bookCall freshBook cs)
-agreed cs = agree-after cs freshStore freshBook agree-fresh
+-- the book that events leave agrees with the store that they leave
+agreed : (es : List Event) → Agree (history es .store) (after (asked theBook) freshBook es)
+agreed es = agree-after es freshStore freshBook agree-fresh
 
-pub ends-no-text : EndsNoText
-ends-no-text cs x r m z = warns (storeAfter freshStore cs) (after bookCall freshBook cs) (agreed cs) x r m z
+ends-then : (es : List Event) → EndsNoText (history es)
+ends-then es x r m z = warns (history es .store) (after (asked theBook) freshBook es) (agreed es) x r m z
 
-pub never-damaged : NeverDamaged
-never-damaged cs l r m = neither (storeAfter freshStore cs) (after bookCall freshBook cs) (agreed cs) l r m
+pub ends-no-text : Always EndsNoText
+ends-no-text = always EndsNoText ends-then
+
+never-then : (es : List Event) → NeverDamaged (history es)
+never-then es l r m = neither (history es .store) (after (asked theBook) freshBook es) (agreed es) l r m
+
+pub never-damaged : Always NeverDamaged
+never-damaged = always NeverDamaged never-then

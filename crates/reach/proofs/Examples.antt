@@ -4,7 +4,7 @@ use Rattle.language.specs.Values.{isValue, lawful}
 use Rattle.language.specs.Reading.{read, exprOf}
 use Rattle.language.specs.Machine.{decode}
 use Rattle.book.specs.Store.{freshStore, soundStore, storeCall}
-use Rattle.book.specs.History.{after}
+use Rattle.book.specs.Sessions.{after}
 use Rattle.marks.specs.Marks.{marks, callsIn, undamaged}
 use Rattle.reach.specs.Reach.{calledBy, spread, spreadBy, reachedBy, missingOf, readable, reach}
 use Rattle.reach.specs.Examples.{Hold, reports, changes, chains, strays}

@@ -5,10 +5,10 @@ use mathlib.Core.Bool.{true, false}
 use mathlib.Core.List.{List}
 use Rattle.language.specs.Letters.{letterIndex}
 use Rattle.language.specs.Tables.{standsAt}
-use Rattle.book.specs.Calls.{Run, Call}
-use Rattle.book.specs.Store.{Store, freshStore}
-use Rattle.book.specs.History.{storeAfter}
-use Rattle.book.specs.Statements.{runAfter}
+use Rattle.book.specs.Calls.{Run}
+use Rattle.book.specs.Store.{Store}
+use Rattle.book.specs.History.{History}
+use Rattle.book.specs.Demand3.{runAfter}
 use Rattle.reach.specs.Reach.{Reaches, isMarked, Report, reach}
 
 -- "Reached means that some chain of call marks in the standing tables leads there; the letter itself counts as reached." In both directions, for any
@@ -42,12 +42,11 @@ pub record Warns (x : Report) : Type 0 where
   pub given : x .number ≡ 0
   pub missing : SomeMarked (x .missing)
 
--- "A run of that letter from a sequence-made store may end 27 only when some letter is marked missing." proofs/Claims `ends-no-text`
-abbrev pub EndsNoText : Type 0
-EndsNoText = (cs : List Call) (x : Run) (r m : List ℕ) → runAfter cs x .report .number ≡ 27 → Warns (reach (storeAfter freshStore cs) (x .letter) r m)
+-- "A run of that letter from a sequence-made store may end 27 only when some letter is marked missing." Of every session of a program.
+-- proofs/Claims `ends-no-text`
+abbrev pub EndsNoText : History → Type 0
+EndsNoText h = (x : Run) (r m : List ℕ) → runAfter h x .report .number ≡ 27 → Warns (reach (h .store) (x .letter) r m)
 
 -- On a sequence-made store 13 and 29 do not occur here either. proofs/Claims `never-damaged`
-abbrev pub NeverDamaged : Type 0
-NeverDamaged =
-    (cs : List Call) (l : ℕ) (r m : List ℕ)
-    → (reach (storeAfter freshStore cs) l r m .number ≡ 13 → ⊥) × (reach (storeAfter freshStore cs) l r m .number ≡ 29 → ⊥)
+abbrev pub NeverDamaged : History → Type 0
+NeverDamaged h = (l : ℕ) (r m : List ℕ) → (reach (h .store) l r m .number ≡ 13 → ⊥) × (reach (h .store) l r m .number ≡ 29 → ⊥)

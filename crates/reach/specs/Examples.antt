@@ -14,8 +14,8 @@ use Rattle.language.specs.Reading.{read, exprOf}
 use Rattle.language.specs.Layout.{tableOf}
 use Rattle.language.specs.Trials.{bytes, neg}
 use Rattle.book.specs.Calls.{defines, withdraws}
-use Rattle.book.specs.Store.{Store, storeOf, freshStore}
-use Rattle.book.specs.History.{storeAfter}
+use Rattle.book.specs.Store.{Store, storeOf, freshStore, storeCall}
+use Rattle.book.specs.Sessions.{after}
 use Rattle.reach.specs.Reach.{marksBy, spreadBy, mostCalls, Report, reach}
 
 -- ── how a report is shown ───────────────────────────────────────────────────────────────────────
@@ -93,8 +93,8 @@ reports =
 -- proofs/Examples `changes-hold`
 abbrev pub changes : List (Shown × Shown)
 changes =
-    (of (storeAfter freshStore (defines 97 0 (bytes "(b;)") ∷ defines 97 0 (bytes "(c;)") ∷ [])) 97, says 0 "ac" "c")
-    ∷ (of (storeAfter freshStore (defines 97 0 (bytes "(b;)") ∷ defines 98 1 (bytes "(c;)") ∷ withdraws 98 ∷ [])) 97, says 0 "ab" "b")
+    (of (after storeCall freshStore (defines 97 0 (bytes "(b;)") ∷ defines 97 0 (bytes "(c;)") ∷ [])) 97, says 0 "ac" "c")
+    ∷ (of (after storeCall freshStore (defines 97 0 (bytes "(b;)") ∷ defines 98 1 (bytes "(c;)") ∷ withdraws 98 ∷ [])) 97, says 0 "ab" "b")
     ∷ []
 
 -- ── 26 letters in a chain ───────────────────────────────────────────────────────────────────────

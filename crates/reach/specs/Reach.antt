@@ -6,15 +6,14 @@ use mathlib.Core.Option.{Option, none, some}
 use mathlib.Core.List.{List, [], _∷_}
 use lib.ListN.{getD}
 use lib.Dec.{eqb}
-use Rattle.language.specs.declared.Refusal.{Refusal}
-use Rattle.language.specs.declared.Refusal.the-variants.{NoSuchLetter, NotStanding, BadStore}
 use Rattle.language.specs.declared.Ending.the-variants.{Damaged}
-use Rattle.language.specs.Answers.{refusalNumber, endingNumber}
+use Rattle.language.specs.Answers.{endingNumber}
 use Rattle.language.specs.Limits.{maxLetters}
-use Rattle.language.specs.Letters.{isLetter, letterIndex}
+use Rattle.language.specs.Letters.{letterIndex}
 use Rattle.language.specs.Tables.{standsAt}
-use Rattle.book.specs.Refusals.{unless, first}
-use Rattle.book.specs.Store.{Store, soundStore, entryAt}
+use Rattle.book.specs.declared.Refusal.{Refusal}
+use Rattle.book.specs.Refusals.{refusalNumber, first, textTests}
+use Rattle.book.specs.Store.{Store, storeView, entryAt}
 use Rattle.marks.specs.Marks.{marks, undamaged, callsIn}
 
 -- ── chains of call marks ────────────────────────────────────────────────────────────────────────
@@ -100,9 +99,7 @@ reports n r m = record { number = n; reached = r; missing = m }
 
 -- "13, 1, 10 in that order"
 abbrev pub refusalOf : Store → ℕ → Option Refusal
-refusalOf st l =
-    first
-    (unless (soundStore st) BadStore ∷ unless (isLetter l) NoSuchLetter ∷ unless (standsAt (st .used) (letterIndex l)) NotStanding ∷ [])
+refusalOf st l = first (textTests (storeView st) l)
 
 -- "then 29, here a refusal, when reading any standing table mark after mark from cell 2 meets a cell that 29 describes"; else the report of letter l
 abbrev pub reportOf : Option Refusal → Bool → Store → ℕ → List ℕ → List ℕ → Report

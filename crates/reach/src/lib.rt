@@ -8,7 +8,6 @@ ghost use Rattle.reach.specs.Reach.{spread, spreadBy, mostCalls, missing
 ghost use Rattle.reach.specs.Rounds.{tables, inArray, Counted, ReadsOne, Clear, ReadsAll, Marks, eitherMark, withRow, missingMark};
 use language::Ending;
 use language::LETTERS;
-use language::Refusal;
 use language::STORE_CELLS;
 use language::Table;
 use language::VARIABLES;
@@ -161,33 +160,24 @@ fn without_text(used: &[usize; LETTERS], marks: [u8; LETTERS]) -> [u8; LETTERS]
 // ── the report ──────────────────────────────────────────────────────────────────────────────────
 
 // The letters that a letter reaches, and those of them that have no text, marked 1 in the two arrays: 0. Where the call is refused, the number of the
-// refusal, and both arrays stay as they were: "13, 1, 10 in that order, then 29". `stewards` are the store's marks, open or steward's, which 13 looks at.
+// refusal, and both arrays stay as they were: "13, 1, 10 in that order, then 29".
 pub fn reach(
     cells: &[i32; STORE_CELLS],
     used: &[usize; LETTERS],
-    stewards: &[u32; LETTERS],
+    permissions: &[u32; LETTERS],
     vars: &[i32; VARIABLES],
-    letter: u8,
+    letter: u32,
     reached: &mut [u8; LETTERS],
     missing: &mut [u8; LETTERS],
 ) -> u32
     ensures { λ r. ⌜ reports r (now (reached .exit)) (now (missing .exit))
-        ≡ reach (storeOf (now (cells .entry)) (now (used .entry)) (now (stewards .entry)) (now (vars .entry))) letter (now (reached .entry)) (now (missing .entry)) ⌝ }
+        ≡ reach (storeOf (now (cells .entry)) (now (used .entry)) (now (permissions .entry)) (now (vars .entry))) letter (now (reached .entry)) (now (missing .entry)) ⌝ }
 {
-    let values = *vars;
-    let guards = *stewards;
-    let counts = *used;
-    validation::all_there(counts);
-    if !validation::sound_store(used, guards, values) {
-        return Refusal::BadStore.number();
+    let number = admission::text(used, permissions, vars, letter);
+    if number != 0 {
+        return number;
     }
-    if !validation::is_letter(letter) {
-        return Refusal::NoSuchLetter.number();
-    }
-    let a = (letter - b'a') as usize;
-    if counts[a] == 0 {
-        return Refusal::NotStanding.number();
-    }
+    let a = admission::index(letter);
     let mut calls = [0u8; CALLS];
     if !read_all(cells, used, &mut calls) {
         return Ending::Damaged.number();

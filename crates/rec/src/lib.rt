@@ -1,30 +1,25 @@
-// The C library: every `extern "C"` function of the product. include/rec.h is its header; its inline functions take a store apart for those here, and put
-// figures into a report.
+// The C library: every `extern "C"` function of the product. Each calls one function with the same contract. include/rec.h is the header; its inline
+// functions take a store apart for those here, and put figures into a report. Letters are bytes here, and what is no letter is refused below.
 ghost use mathlib.Core.Path.{_≡_};
-ghost use Prim.Native.Nat.{min};
-ghost use lib.Seq.{paste};
-ghost use Rattle.language.specs.Limits.{maxCells};
 ghost use Rattle.language.specs.Reading.{read};
 ghost use Rattle.linker.specs.Linked.{linked};
+ghost use Rattle.linker.specs.Into.{linksInto, linkedInto};
 ghost use Rattle.numerals.specs.Numerals.{delivers};
 ghost use Rattle.faircopy.specs.FairCopy.{copied};
+ghost use Rattle.dividend.specs.Dividend.{SettledInto};
 ghost use Rattle.book.specs.Calls.{defines, withdraws, running};
-ghost use Rattle.book.specs.Store.{storeOf, freshStore, storeCall, told};
+ghost use Rattle.book.specs.Store.{storeOf, freshStore, storeCall, changed};
+ghost use Rattle.runner.specs.Figures.{returns, returned};
 ghost use Rattle.reach.specs.Reach.{reports, reach};
 ghost use Rattle.console.specs.Day.{dayOf};
 ghost use Rattle.day.specs.Played.{played};
-ghost use Rattle.rec.specs.Doors.{truthFigure, opens, opened, hands, handed, Copies, Tells};
+use dividend::FIGURES as PAYOUT_FIGURES;
 use language::LETTERS;
-use language::OPEN;
 use language::STORE_CELLS;
-use language::Table;
 use language::VARIABLES;
+use runner::FIGURES;
 
-// The figures of a run beside its number.
-const FIGURES: usize = 5;
-
-// The figures of a pool that is paid out.
-const PAYOUT_FIGURES: usize = 5;
+mod steps;
 
 // ── a store of lent arrays ──────────────────────────────────────────────────────────────────────
 
@@ -38,10 +33,7 @@ pub extern "C" fn rec_lent_fresh(
 )
     ensures { λ _. ⌜ storeOf (now (cells .exit)) (now (used .exit)) (now (marks .exit)) (now (vars .exit)) ≡ freshStore ⌝ }
 {
-    *cells = [0i32; STORE_CELLS];
-    *used = [0usize; LETTERS];
-    *marks = [OPEN; LETTERS];
-    *vars = [0i32; VARIABLES];
+    lent::fresh(cells, used, marks, vars)
 }
 
 // The letter's table becomes that of the text, and its mark the one given: 0, or the refusal's number.
@@ -55,11 +47,10 @@ pub extern "C" fn rec_lent_define(
     mark: u32,
     text: &[u8],
 ) -> u32
-    ensures { λ r. ⌜ told (storeOf (now (cells .exit)) (now (used .exit)) (now (marks .exit)) (now (vars .entry))) r (defines letter mark (now (text .entry)))
+    ensures { λ r. ⌜ changed (storeOf (now (cells .exit)) (now (used .exit)) (now (marks .exit)) (now (vars .entry))) r (defines letter mark (now (text .entry)))
         ≡ storeCall (storeOf (now (cells .entry)) (now (used .entry)) (now (marks .entry)) (now (vars .entry))) (defines letter mark (now (text .entry))) ⌝ }
 {
-    let values = *vars;
-    lent::define(cells, used, marks, values, letter, mark, text)
+    lent::define(cells, used, marks, vars, letter as u32, mark, text)
 }
 
 // The letter's text goes, and its mark is open: 0, or the refusal's number.
@@ -71,21 +62,14 @@ pub extern "C" fn rec_lent_withdraw(
     vars: &[i32; VARIABLES],
     letter: u8,
 ) -> u32
-    ensures { λ r. ⌜ told (storeOf (now (cells .exit)) (now (used .exit)) (now (marks .exit)) (now (vars .entry))) r (withdraws letter)
+    ensures { λ r. ⌜ changed (storeOf (now (cells .exit)) (now (used .exit)) (now (marks .exit)) (now (vars .entry))) r (withdraws letter)
         ≡ storeCall (storeOf (now (cells .entry)) (now (used .entry)) (now (marks .entry)) (now (vars .entry))) (withdraws letter) ⌝ }
 {
-    let values = *vars;
-    lent::withdraw(cells, used, marks, values, letter)
+    lent::withdraw(cells, used, marks, vars, letter as u32)
 }
 
-fn truth_figure(t: bool) -> usize
-    ensures { λ r. ⌜ r ≡ truthFigure t ⌝ }
-{
-    if t { 1 } else { 0 }
-}
-
-// The answer's number, for a caller with this role. The variables, the list and the output are left as the run leaves them; the figures are truth, steps,
-// list height, inputs taken and output length.
+// The answer's number, for a caller with this role. Cells, counts and marks are read only: "No run changes a table." The variables, the list and the output
+// are left as the run leaves them; the figures are truth, steps, list height, inputs taken and output length.
 #[no_mangle]
 pub extern "C" fn rec_lent_run(
     cells: &[i32; STORE_CELLS],
@@ -100,30 +84,23 @@ pub extern "C" fn rec_lent_run(
     output: &mut [u8],
     figures: &mut [usize; FIGURES],
 ) -> u32
-    ensures { λ r. ⌜ opens r (now (vars .exit)) (now (list .exit)) (now (output .exit)) (now (figures .exit))
-        ≡ opened (storeCall (storeOf (now (cells .entry)) (now (used .entry)) (now (marks .entry)) (now (vars .entry)))
+    ensures { λ r. ⌜ returns (storeOf (now (cells .entry)) (now (used .entry)) (now (marks .entry)) (now (vars .exit))) r (now (list .exit)) (now (output .exit)) (now (figures .exit))
+        ≡ returned (storeCall (storeOf (now (cells .entry)) (now (used .entry)) (now (marks .entry)) (now (vars .entry)))
         (running letter role allowance (now (inputs .entry)) (now (list .entry)) (now (output .entry)))) ⌝ }
 {
-    let report = runner::run(
+    runner::run_into(
         cells,
         used,
         marks,
         vars,
-        letter,
+        letter as u32,
         role,
         allowance,
         inputs,
         list,
         output,
-    );
-    *figures = [
-        truth_figure(report.truth),
-        report.steps as usize,
-        report.height,
-        report.taken,
-        report.written,
-    ];
-    report.number
+        figures,
+    )
 }
 
 // The letters that the letter reaches, and those of them that have no text, marked 1 and every other letter 0: 0. Where the call is refused, the number
@@ -141,55 +118,26 @@ pub extern "C" fn rec_lent_reach(
     ensures { λ r. ⌜ reports r (now (reached .exit)) (now (missing .exit))
         ≡ reach (storeOf (now (cells .entry)) (now (used .entry)) (now (marks .entry)) (now (vars .entry))) letter (now (reached .entry)) (now (missing .entry)) ⌝ }
 {
-    reach::reach(cells, used, marks, vars, letter, reached, missing)
+    reach::reach(cells, used, marks, vars, letter as u32, reached, missing)
 }
 
 // ── a text alone ────────────────────────────────────────────────────────────────────────────────
 
-// 0, or the number of the refusal.
+// 0, or the number of the text's first fault.
 #[no_mangle]
 pub extern "C" fn rec_check(text: &[u8]) -> u32
     ensures { λ r. ⌜ r ≡ linked (read (now (text .entry))) .number ⌝ }
 {
-    let checked = linker::link(text);
-    checked.number
-}
-
-// The first n cells of a table in the first n of the lent places.
-fn copy_cells(table: &[i32; Table::CELLS], places: &mut [i32], n: usize)
-    requires { ⌜ Copies (now table) (now places) n ⌝ }
-    ensures { λ _. ⌜ now (places .exit) ≡ paste (now (places .entry)) 0 (now (table .entry)) n ⌝ }
-{
-    let mut i: usize = 0;
-    while i < n {
-        places[i] = table[i];
-        i += 1;
-    }
-}
-
-// n, and at most the cells of a table.
-fn at_most(n: usize) -> usize
-    ensures { λ r. ⌜ r ≡ min maxCells n ⌝ }
-{
-    if Table::CELLS < n { Table::CELLS } else { n }
+    linker::check(text)
 }
 
 // The same number. An accepted text gives its used-cell count, and its table's cells in the places that are lent, up to 250 of them; the other places
 // stay as they were. A refused one gives a count of 0, and every place stays.
 #[no_mangle]
 pub extern "C" fn rec_link(text: &[u8], cells: &mut [i32], used: &mut usize) -> u32
-    ensures { λ r. ⌜ hands r (now (used .exit)) (now (cells .exit)) ≡ handed (now (cells .entry)) (read (now (text .entry))) ⌝ }
+    ensures { λ r. ⌜ linksInto r (now (used .exit)) (now (cells .exit)) ≡ linkedInto (now (cells .entry)) (read (now (text .entry))) ⌝ }
 {
-    let l = linker::link(text);
-    let t = l.table;
-    *used = t.used;
-    if l.number != 0 {
-        return l.number;
-    }
-    let table = t.cells;
-    let n = at_most(cells.len());
-    copy_cells(&table, cells, n);
-    0
+    linker::link_into(text, cells, used)
 }
 
 // The text's fair copy at the start of the paper: 0 and its length. Where the text is refused, or the copy does not all fit, its number and 0, and the
@@ -198,9 +146,7 @@ pub extern "C" fn rec_link(text: &[u8], cells: &mut [i32], used: &mut usize) -> 
 pub extern "C" fn rec_fair_copy(text: &[u8], paper: &mut [u8], written: &mut usize) -> u32
     ensures { λ r. ⌜ delivers r (now (written .exit)) (now (paper .exit)) ≡ copied (now (paper .entry)) (read (now (text .entry))) ⌝ }
 {
-    let c = faircopy::fair_copy(text, paper);
-    *written = c.length();
-    c.number()
+    faircopy::copy_into(text, paper, written)
 }
 
 // ── a pool ──────────────────────────────────────────────────────────────────────────────────────
@@ -213,12 +159,9 @@ pub extern "C" fn rec_dividend_figures(
     stakes: u32,
     figures: &mut [u64; PAYOUT_FIGURES],
 ) -> u32
-    ensures { λ r. ⌜ Tells pool rate stakes r (now (figures .exit)) ⌝ }
+    ensures { λ r. ⌜ SettledInto pool rate stakes r (now (figures .exit)) ⌝ }
 {
-    let settlement = dividend::settle(pool, rate, stakes);
-    let p = settlement.payout();
-    *figures = [p.takeout, p.net, p.dividend, p.payments, p.breakage];
-    settlement.number()
+    dividend::settle_into(pool, rate, stakes, figures)
 }
 
 // ── a day ───────────────────────────────────────────────────────────────────────────────────────
@@ -229,7 +172,5 @@ pub extern "C" fn rec_dividend_figures(
 pub extern "C" fn rec_day(input: &[u8], output: &mut [u8], written: &mut usize) -> u32
     ensures { λ r. ⌜ delivers r (now (written .exit)) (now (output .exit)) ≡ played (now (output .entry)) (dayOf (now (input .entry))) ⌝ }
 {
-    let w = day::play(input, output);
-    *written = w.count;
-    w.number
+    day::play_into(input, output, written)
 }

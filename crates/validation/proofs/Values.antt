@@ -9,8 +9,8 @@ use lib.IntN.{ℤ, pos}
 use lib.ListN.{length, getD, drop}
 use lib.Seq.{drop-cons, drop-length}
 use Rattle.language.specs.Values.{isValue, lawful}
-use Rattle.language.specs.Roles.{isMark}
-use Rattle.language.specs.Tables.{soundUsed, soundCount, soundMarks}
+use Rattle.language.specs.Roles.{isPermission}
+use Rattle.language.specs.Tables.{soundUsed, soundCount, soundPermissions}
 
 -- the elements of l before i have passed, so what is left decides
 pub record Passed {A : Type 0} (all : List A → Bool) (l : List A) (i : ℕ) : Type 0 where
@@ -74,20 +74,20 @@ module _ (l : List ℕ) (i : ℕ) (inv : Passed soundUsed l i) where
 
 -- ── marks ───────────────────────────────────────────────────────────────────────────────────────
 
-marks-none : soundMarks [] ≡ true
-unfolding soundMarks
-marks-none = refl
+permissions-none : soundPermissions [] ≡ true
+unfolding soundPermissions
+permissions-none = refl
 
-marks-more : (k : ℕ) (l : List ℕ) → soundMarks (k ∷ l) ≡ isMark k && soundMarks l
-unfolding soundMarks isMark
-marks-more k l = refl
+permissions-more : (k : ℕ) (l : List ℕ) → soundPermissions (k ∷ l) ≡ isPermission k && soundPermissions l
+unfolding soundPermissions isPermission
+permissions-more k l = refl
 
-module _ (l : List ℕ) (i : ℕ) (inv : Passed soundMarks l i) where
-  pub marks-false : i < length l → isMark (getD l i 0) ≡ false → false ≡ soundMarks l
-  marks-false = fails 0 isMark soundMarks marks-none marks-more l i inv
+module _ (l : List ℕ) (i : ℕ) (inv : Passed soundPermissions l i) where
+  pub permissions-false : i < length l → isPermission (getD l i 0) ≡ false → false ≡ soundPermissions l
+  permissions-false = fails 0 isPermission soundPermissions permissions-none permissions-more l i inv
 
-  pub marks-on : i < length l → isMark (getD l i 0) ≡ true → Passed soundMarks l (i + 1)
-  marks-on = passes 0 isMark soundMarks marks-none marks-more l i inv
+  pub permissions-on : i < length l → isPermission (getD l i 0) ≡ true → Passed soundPermissions l (i + 1)
+  permissions-on = passes 0 isPermission soundPermissions permissions-none permissions-more l i inv
 
-  pub marks-end : i ≡ length l → true ≡ soundMarks l
-  marks-end = ends 0 isMark soundMarks marks-none marks-more l i inv
+  pub permissions-end : i ≡ length l → true ≡ soundPermissions l
+  permissions-end = ends 0 isPermission soundPermissions permissions-none permissions-more l i inv

@@ -4,10 +4,12 @@ ghost use mathlib.Core.Bool.{_&&_};
 ghost use lib.ListN.{length};
 ghost use Rattle.language.specs.Limits.{maxLetters};
 ghost use Rattle.language.specs.Letters.{isLetter};
-ghost use Rattle.language.specs.Roles.{isMark, isRole};
-ghost use Rattle.language.specs.Tables.{soundCount, soundUsed, soundMarks};
+ghost use Rattle.language.specs.Roles.{isPermission, isRole};
+ghost use Rattle.language.specs.Tables.{soundCount, soundUsed, soundPermissions};
 ghost use Rattle.language.specs.Values.{isValue, lawful};
 use language::CASHIER;
+use language::FIRST_LETTER;
+use language::LAST_LETTER;
 use language::LEAST_VALUE;
 use language::LETTERS;
 use language::MOST_VALUE;
@@ -18,23 +20,23 @@ use language::Table;
 use language::VARIABLES;
 
 // "no such letter: not `a` to `z`"
-pub fn is_letter(letter: u8) -> bool
+pub fn is_letter(letter: u32) -> bool
     ensures { λ r. ⌜ r ≡ isLetter letter ⌝ }
 {
-    if letter < b'a' {
+    if letter < FIRST_LETTER {
         return false;
     }
-    letter <= b'z'
+    letter <= LAST_LETTER
 }
 
 // "bad mark, a mark or role neither of the two": of a mark this is not so.
-pub fn is_mark(mark: u32) -> bool
-    ensures { λ r. ⌜ r ≡ isMark mark ⌝ }
+pub fn is_permission(permission: u32) -> bool
+    ensures { λ r. ⌜ r ≡ isPermission permission ⌝ }
 {
-    if mark == OPEN {
+    if permission == OPEN {
         return true;
     }
-    mark == STEWARDS
+    permission == STEWARDS
 }
 
 // Nor of a role.
@@ -109,12 +111,12 @@ pub fn all_there(used: [usize; LETTERS]) -> bool
 }
 
 // Every mark is one of the two.
-fn sound_marks(marks: &[u32]) -> bool
-    ensures { λ r. ⌜ r ≡ soundMarks (now (marks .entry)) ⌝ }
+fn sound_permissions(permissions: &[u32]) -> bool
+    ensures { λ r. ⌜ r ≡ soundPermissions (now (permissions .entry)) ⌝ }
 {
     let mut i: usize = 0;
-    while i < marks.len() {
-        if !is_mark(marks[i]) {
+    while i < permissions.len() {
+        if !is_permission(permissions[i]) {
             return false;
         }
         i += 1;
@@ -123,15 +125,19 @@ fn sound_marks(marks: &[u32]) -> bool
 }
 
 // "bad store: a used count neither 0 nor 3 to 250, or a variable outside the values", or "a mark with any other value", is not so.
-pub fn sound_store(used: &[usize; LETTERS], marks: [u32; LETTERS], vars: [i32; VARIABLES]) -> bool
-    ensures { λ r. ⌜ r ≡ soundUsed (now (used .entry)) && soundMarks marks && lawful vars ⌝ }
+pub fn sound_store(
+    used: &[usize; LETTERS],
+    permissions: [u32; LETTERS],
+    vars: [i32; VARIABLES],
+) -> bool
+    ensures { λ r. ⌜ r ≡ soundUsed (now (used .entry)) && soundPermissions permissions && lawful vars ⌝ }
 {
     let counts = *used;
     all_there(counts);
     if !sound_used(used) {
         return false;
     }
-    if sound_marks(&marks) {
+    if sound_permissions(&permissions) {
         lawful(&vars)
     } else {
         false

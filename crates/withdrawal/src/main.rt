@@ -6,6 +6,12 @@ use language::OPEN;
 ghost use mathlib.Core.Path.{_≡_};
 ghost use lib.IntN.{pos};
 
+// The letter p.
+const LETTER_P: u32 = 112;
+
+// The letter q.
+const LETTER_Q: u32 = 113;
+
 // The numbers of the three runs, and what the first one pays.
 pub struct Shown {
     pub before: u32,
@@ -25,15 +31,16 @@ pub fn session() -> Shown
     let mut output = [0u8; 16];
     let mut output2 = [0u8; 16];
     let mut output3 = [0u8; 16];
-    let p = Store::fresh().define(b'p', OPEN, b"('/5';)");
-    let q = p.store.define(b'q', OPEN, b"(p;)");
-    let first = q.store.run(b'q', CASHIER, 9, &none, &mut list, &mut output);
-    let x = first.store.withdraw(b'p');
+    let p = Store::fresh().define(LETTER_P, OPEN, b"('/5';)");
+    let q = p.store.define(LETTER_Q, OPEN, b"(p;)");
+    let first = q.store
+        .run(LETTER_Q, CASHIER, 9, &none, &mut list, &mut output);
+    let x = first.store.withdraw(LETTER_P);
     let second = x.store
-        .run(b'q', CASHIER, 9, &none, &mut list2, &mut output2);
+        .run(LETTER_Q, CASHIER, 9, &none, &mut list2, &mut output2);
     let third = second
         .store
-        .run(b'p', CASHIER, 9, &none, &mut list3, &mut output3);
+        .run(LETTER_P, CASHIER, 9, &none, &mut list3, &mut output3);
     Shown {
         before: first.report.number,
         paid: list[0],

@@ -10,8 +10,7 @@ use Rattle.book.specs.Store.{storeOf, storeCall}
 use Rattle.lines.specs.declared.Command.{Command}
 use Rattle.lines.specs.Lines.{define, request}
 use Rattle.lines.specs.Commands.{fieldStart, Asks}
-use Rattle.figures.specs.Printed.{figures, told}
-use Rattle.commands.specs.Served.{serves, granted, printed}
+use Rattle.commands.specs.Served.{granted, printed}
 use Rattle.commands.proofs.Served.{told-printed, no-room, by-request}
 use borrow.Author.Needs.{needs}
 use Rattle.commands.proofs.perform.Statement.{statement}
@@ -47,7 +46,7 @@ returns-2 : tie.Need-returns-2
 unfolding granted
 returns-2 c =
     let s = c .before .before .before .before .before .before .before .before .before .before .before .before .before .before .before .before .before .before .args in
-    let st = storeOf (now (s .cells)) (now (s .used)) (now (s .marks)) (now (s .vars)) in
+    let st = storeOf (now (s .cells)) (now (s .used)) (now (s .permissions)) (now (s .vars)) in
     told-printed st _ (s .number) _ _ (now (s .paper)) _ _ (c .before .before .before .before .define .ensures) (c .before .before .tell .ensures)
     ∙ ap (λ t. printed (now (s .paper)) (granted storeCall st (s .number) (define (c .before .before .before .before .before .before .before .before .before .before .before .command .given .0 .0) t)))
     (take-all (length (now (s .line)) - fieldStart) (drop fieldStart (now (s .line))) (omega (arith, length-drop fieldStart (now (s .line)))))
@@ -57,29 +56,28 @@ returns-3 : tie.Need-returns-3
 unfolding granted
 returns-3 c =
     let s = c .before .before .before .before .before .before .before .before .before .before .before .before .before .before .before .before .before .args in
-    let st = storeOf (now (s .cells)) (now (s .used)) (now (s .marks)) (now (s .vars)) in
+    let st = storeOf (now (s .cells)) (now (s .used)) (now (s .permissions)) (now (s .vars)) in
     told-printed st _ (s .number) _ _ (now (s .paper)) _ _ (c .before .before .before .before .withdraw .ensures) (c .before .before .tell2 .ensures)
     ∙ by-request st (s .number) (now (s .line)) (now (s .paper)) _ (c .before .before .before .before .before .before .before .before .before .before .before .before .before .before .if1 .left) (asks (c .before .before .before .before .before .before .before .before .before .before .before .before) _ (c .before .before .before .before .before .before .before .before .before .before .command2 .given .1) .means)
 
 returns-4 : tie.Need-returns-4
 returns-4 c =
     let s = c .before .before .before .before .before .before .before .before .before .before .before .before .before .before .before .before .before .args in
-    let st = storeOf (now (s .cells)) (now (s .used)) (now (s .marks)) (now (s .vars)) in
+    let st = storeOf (now (s .cells)) (now (s .used)) (now (s .permissions)) (now (s .vars)) in
     c .before .before .execute .ensures
     ∙ by-request st (s .number) (now (s .line)) (now (s .paper)) _ (c .before .before .before .before .before .before .before .before .before .before .before .before .before .before .if1 .left) (asks (c .before .before .before .before .before .before .before .before .before .before .before .before) _ (c .before .before .before .before .before .before .before .before .before .before .command3 .given .1) .means)
 
 returns-5 : tie.Need-returns-5
 unfolding granted
 returns-5 c =
-    let s = c .before .before .before .before .before .before .before .before .before .before .before .before .args in
-    let st = storeOf (now (s .cells)) (now (s .used)) (now (s .marks)) (now (s .vars)) in
+    let s = c .before .before .before .before .before .before .before .before .before .before .before .args in
+    let st = storeOf (now (s .cells)) (now (s .used)) (now (s .permissions)) (now (s .vars)) in
     (λ i. record { store = st; paper = c .before .before .tell3 .ensures i })
-    ∙ ap (λ n. printed (now (s .paper)) (serves st (figures (told (s .number) n)))) (c .before .before .before .number .ensures)
-    ∙ by-request st (s .number) (now (s .line)) (now (s .paper)) _ (c .before .before .before .before .before .before .before .before .before .if1 .left) (asks (c .before .before .before .before .before .before .before) _ (c .before .before .before .before .before .enum-told .given .1) .means)
+    ∙ by-request st (s .number) (now (s .line)) (now (s .paper)) _ (c .before .before .before .before .before .before .before .before .if1 .left) (asks (c .before .before .before .before .before .before) _ (c .before .before .before .before .enum-told .given .1) .means)
 
 pub perform-spec : {M : Type 1} → statement M
 perform-spec =
-    tie.close (tie.spec returns (λ c κs. search needs) (λ c. search needs) sub-define part-define-start (λ c. search needs) (λ c κs. search needs)
-    (λ c κs. search needs) (λ c. search needs) (λ c κs. search needs) (λ c κs. search needs) (λ c. search needs) array-share-prefix-inputs
-    slice-aggregate-execute (λ c κs. search needs) enum-told (λ c κs. search needs) (λ c κs. search needs) (λ c. search needs) returns-2
-    (λ c. search needs) returns-3 (λ c. search needs) returns-4 (λ c. search needs) returns-5)
+    tie.close (tie.spec returns (λ c κs. search needs) (λ c. search needs) (λ c. search needs) sub-define part-define-start (λ c. search needs)
+    (λ c κs. search needs) (λ c κs. search needs) (λ c. search needs) (λ c. search needs) (λ c κs. search needs) (λ c κs. search needs)
+    (λ c. search needs) (λ c. search needs) array-share-prefix-inputs slice-aggregate-execute (λ c κs. search needs) enum-told (λ c κs. search needs)
+    (λ c. search needs) returns-2 (λ c. search needs) returns-3 (λ c. search needs) returns-4 (λ c. search needs) returns-5)

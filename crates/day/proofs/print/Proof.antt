@@ -18,11 +18,11 @@ use Rattle.day.proofs.print.Statement.{statement}
 use Rattle.day.proofs.print.Tie as tie
 
 abbrev Inv-loop : tie.InvT-loop
-Inv-loop input output₀ cells₀ used₀ marks₀ vars₀ line₀ paper₀ place₀ at₀ count₀ output cells used marks vars line paper place at count =
-    Turning input output₀ (progress (storeOf cells used marks vars) place line) at count output line paper
+Inv-loop input output₀ cells₀ used₀ permissions₀ vars₀ line₀ paper₀ place₀ at₀ count₀ output cells used permissions vars line paper place at count =
+    Turning input output₀ (progress (storeOf cells used permissions vars) place line) at count output line paper
 
 abbrev μ-loop : tie.MeasureT-loop
-μ-loop input output₀ cells₀ used₀ marks₀ vars₀ line₀ paper₀ place₀ at₀ count₀ output cells used marks vars line paper place at count = length input - at
+μ-loop input output₀ cells₀ used₀ permissions₀ vars₀ line₀ paper₀ place₀ at₀ count₀ output cells used permissions vars line paper place at count = length input - at
 
 loop-holds : tie.Need-loop-holds Inv-loop μ-loop
 unfolding freshStore

@@ -12,10 +12,10 @@ use Rattle.desk.proofs.attend.Statement.{statement}
 use Rattle.desk.proofs.attend.Tie as tie
 
 abbrev Inv-loop : tie.InvT-loop
-Inv-loop cells₀ used₀ marks₀ vars₀ line₀ out₀ person buffer₀ p₀ reads₀ t14 cells used marks vars line out buffer p reads = Reading line out buffer
+Inv-loop cells₀ used₀ permissions₀ vars₀ line₀ out₀ person buffer₀ p₀ reads₀ t14 cells used permissions vars line out buffer p reads = Reading line out buffer
 
 abbrev μ-loop : tie.MeasureT-loop
-μ-loop cells₀ used₀ marks₀ vars₀ line₀ out₀ person buffer₀ p₀ reads₀ t14 cells used marks vars line out buffer p reads = reads
+μ-loop cells₀ used₀ permissions₀ vars₀ line₀ out₀ person buffer₀ p₀ reads₀ t14 cells used permissions vars line out buffer p reads = reads
 
 large-buffer-requires : tie.Need-large-buffer-requires Inv-loop μ-loop
 large-buffer-requires c κs = search needs

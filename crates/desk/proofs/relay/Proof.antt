@@ -15,11 +15,11 @@ use Rattle.desk.proofs.relay.Statement.{statement}
 use Rattle.desk.proofs.relay.Tie as tie
 
 abbrev Inv-loop : tie.InvT-loop
-Inv-loop cells₀ used₀ marks₀ vars₀ line₀ part out₀ person p₀ at₀ cells used marks vars line out p at =
-    Relaying part (progress (storeOf cells₀ used₀ marks₀ vars₀) p₀ line₀) at (progress (storeOf cells used marks vars) p line) line out
+Inv-loop cells₀ used₀ permissions₀ vars₀ line₀ part out₀ person p₀ at₀ cells used permissions vars line out p at =
+    Relaying part (progress (storeOf cells₀ used₀ permissions₀ vars₀) p₀ line₀) at (progress (storeOf cells used permissions vars) p line) line out
 
 abbrev μ-loop : tie.MeasureT-loop
-μ-loop cells₀ used₀ marks₀ vars₀ line₀ part out₀ person p₀ at₀ cells used marks vars line out p at = length part - at
+μ-loop cells₀ used₀ permissions₀ vars₀ line₀ part out₀ person p₀ at₀ cells used permissions vars line out p at = length part - at
 
 loop-holds : tie.Need-loop-holds Inv-loop μ-loop
 loop-holds c = record { inside = omega arith; buffers = c .before .before .before .pre; bytes = []; day = λ rest. refl }

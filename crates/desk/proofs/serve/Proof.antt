@@ -15,11 +15,11 @@ use Rattle.desk.proofs.serve.Statement.{statement}
 use Rattle.desk.proofs.serve.Tie as tie
 
 abbrev Inv-loop : tie.InvT-loop
-Inv-loop cells₀ used₀ marks₀ vars₀ line₀ part out₀ person p₀ at₀ held₀ steps₀ cells used marks vars line out p at held steps =
-    Serving part (progress (storeOf cells₀ used₀ marks₀ vars₀) p₀ line₀) at held (progress (storeOf cells used marks vars) p line) line out
+Inv-loop cells₀ used₀ permissions₀ vars₀ line₀ part out₀ person p₀ at₀ held₀ steps₀ cells used permissions vars line out p at held steps =
+    Serving part (progress (storeOf cells₀ used₀ permissions₀ vars₀) p₀ line₀) at held (progress (storeOf cells used permissions vars) p line) line out
 
 abbrev μ-loop : tie.MeasureT-loop
-μ-loop cells₀ used₀ marks₀ vars₀ line₀ part out₀ person p₀ at₀ held₀ steps₀ cells used marks vars line out p at held steps =
+μ-loop cells₀ used₀ permissions₀ vars₀ line₀ part out₀ person p₀ at₀ held₀ steps₀ cells used permissions vars line out p at held steps =
     length part - at
 
 -- what a step comes to

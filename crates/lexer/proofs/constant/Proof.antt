@@ -20,7 +20,7 @@ returns : tie.Need-returns
 returns c =
     let m = c .before .before in
     let a = m .before .before .before .before .args in
-    number-refused (constantForm (a .minus)) _ _ _ (m .before .before .digits .ensures (constantForm (a .minus)) refl refl refl) (m .enum-told .given .1) (c .before .refusal .ensures) (c .fault .ensures) (omega arith)
+    number-refused (constantForm (a .minus)) _ _ _ (m .before .before .digits .ensures (constantForm (a .minus)) refl refl refl) (m .enum-told .given .1) (c .before .fault-of .ensures) (c .fault .ensures) (omega arith)
 
 cast-t10 : tie.Need-cast-t10
 cast-t10 c =

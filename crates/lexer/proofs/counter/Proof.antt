@@ -17,7 +17,7 @@ returns : tie.Need-returns
 returns c =
     let m = c .before .before in
     let a = m .before .before .before .before .args in
-    number-refused counterForm _ _ _ (m .before .before .digits .ensures counterForm refl refl refl) (m .enum-told .given .1) (c .before .refusal .ensures) (c .fault .ensures) (omega arith)
+    number-refused counterForm _ _ _ (m .before .before .digits .ensures counterForm refl refl refl) (m .enum-told .given .1) (c .before .fault-of .ensures) (c .fault .ensures) (omega arith)
 
 returns-2 : tie.Need-returns-2
 returns-2 c =

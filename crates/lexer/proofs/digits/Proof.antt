@@ -7,13 +7,13 @@ use lib.ListN.{length, getD, drop}
 use native.Mathlib.Omega.{arith}
 use Prim.Native.Nat.{ℕ, _-_, _^_, _≤_, _<_}
 use mathlib.Core.List.{List, [], _∷_}
-use Rattle.language.specs.declared.Refusal.{Refusal}
+use Rattle.language.specs.declared.Fault.{Fault}
 use mathlib.Core.Path.{_≡_, refl, sym, ap, _∙_}
 use borrow.Author.Needs.{needs}
 use Rattle.lexer.proofs.digits.Statement.{statement}
 use Rattle.lexer.proofs.digits.Tie as tie
 
-record Reading (s : List ℕ) (from most close : ℕ) (fault : Refusal) (i n v : ℕ) : Type 0 where
+record Reading (s : List ℕ) (from most close : ℕ) (fault : Fault) (i n v : ℕ) : Type 0 where
   after : from ≤ i
   inside : i ≤ length s
   few : n ≤ most

@@ -1,11 +1,11 @@
 -- `next_token` meets its contract.
-use Rattle.lexer.proofs.Lexing.{takes-after, Skipping, skipping-none}
+use Rattle.lexer.proofs.Lexing.{takes-after, blank-not-end, Skipping, skipping-none}
 use Rattle.lexer.specs.Lexing.{Means}
 use Rattle.language.specs.Tokens.{tokens, idle}
 use lib.ListN.{drop, length}
-use Prim.Native.Nat.{ℕ, _-_}
+use Prim.Native.Nat.{_-_}
 use native.Mathlib.Omega.{arith}
-use mathlib.Core.Path.{_≡_, sym, _∙_, subst}
+use mathlib.Core.Path.{sym, _∙_, subst}
 use borrow.Author.Needs.{needs}
 use Rattle.lexer.proofs.next_token.Statement.{statement}
 use Rattle.lexer.proofs.next_token.Tie as tie
@@ -33,8 +33,8 @@ returns c =
 loop-less : tie.Need-loop-less Inv-loop μ-loop
 loop-less c =
     let r = c .before .before .token-at in
-    let f = r .ensures .further (λ e. let z : _≡_ {A = ℕ} 0 1 = cc in omega arith) in
-    let i = r .ensures .inside (λ e. let z : _≡_ {A = ℕ} 0 1 = cc in omega arith) in
+    let f = r .ensures .further (blank-not-end _ (c .enum-told .given .1)) in
+    let i = r .ensures .inside (blank-not-end _ (c .enum-told .given .1)) in
     omega arith
 
 loop-again : tie.Need-loop-again Inv-loop μ-loop
@@ -42,11 +42,11 @@ loop-again c =
     let m = c .before .before .before in
     let s = m .before .before .args .text .now in
     let r = c .before .before .token-at in
-    let f = r .ensures .further (λ e. let z : _≡_ {A = ℕ} 0 1 = cc in omega arith) in
+    let f = r .ensures .further (blank-not-end _ (c .enum-told .given .1)) in
     let t = subst (λ t. Means s t (tokens (drop (m .loop .at) s) idle) (tokens (drop (r .result .next) s) idle)) (c .enum-told .given .1) (r .ensures .means) in
     record {
       after = omega (arith, m .loop .inv .after);
-      inside = λ _. r .ensures .inside (λ e. let z : _≡_ {A = ℕ} 0 1 = cc in omega arith);
+      inside = λ _. r .ensures .inside (blank-not-end _ (c .enum-told .given .1));
       same = sym t ∙ m .loop .inv .same;
     }
 

@@ -2,8 +2,8 @@
 use Rattle.linker.proofs.LinkedText.{refusedAs, link-long, link-unskipped, link-empty, link-stray, link-inside, link-stopped, link-unskipped-after, link-stray-after, link-whole, scanned-ready}
 use Rattle.linker.specs.Linked.{linked}
 use Rattle.assembler.specs.Scanning.{parsedFrom}
-use Rattle.lexer.specs.Lexing.{skipRefusal, Skips, Settles}
-use Rattle.language.specs.Answers.{refusalNumber}
+use Rattle.lexer.specs.Lexing.{skipFault, Skips, Settles}
+use Rattle.language.specs.Answers.{faultNumber}
 use Rattle.language.specs.Reading.{read}
 use Rattle.language.specs.Tokens.{tokens, idle}
 use lib.ListN.{drop, getD}
@@ -44,7 +44,7 @@ returns-2 c =
     let e = c .before .before .before .enum-told .given .1 in
     c .refused2 .ensures
     ∙ ap refusedAs (c .before .number2 .ensures)
-    ∙ ap (λ r. refusedAs (refusalNumber r)) (c .before .before .skip-refusal .ensures ∙ ap skipRefusal e)
+    ∙ ap (λ r. refusedAs (faultNumber r)) (c .before .before .skip-fault .ensures ∙ ap skipFault e)
     ∙ sym (link-unskipped s (k .before .if1 .left) (c .before .before .before .enum-told .given .0 .0) (subst (Skips (tokens s idle) s 0) e (k .skip .ensures .skips)))
 
 returns-3 : tie.Need-returns-3
@@ -85,7 +85,7 @@ returns-6 c =
     let g = subst (Skips (tokens (drop (z .result .next) s) idle) s (z .result .next)) e (k .skip2 .ensures .skips) in
     c .refused6 .ensures
     ∙ ap refusedAs (c .before .number5 .ensures)
-    ∙ ap (λ r. refusedAs (refusalNumber r)) (c .before .before .skip-refusal2 .ensures ∙ ap skipRefusal e)
+    ∙ ap (λ r. refusedAs (faultNumber r)) (c .before .before .skip-fault2 .ensures ∙ ap skipFault e)
     ∙ sym (opened o ∙ link-unskipped-after s (open-at o + 1) (z .result) _ _ _ (z .ensures) (k .before .if4 .left) (c .before .before .before .enum-told2 .given .0 .0) g)
 
 returns-7 : tie.Need-returns-7

@@ -11,13 +11,13 @@ returns c = let e = sym (c .before .sound-used .ensures) ∙ not-true _ (c .if1 
 returns-2 : tie.Need-returns-2
 returns-2 c =
     let u = sym (c .before .before .before .before .before .before .sound-used .ensures) ∙ not-false _ (c .before .before .before .before .before .if1 .left) in
-    let m = sym (c .before .before .before .sound-marks .ensures) ∙ c .before .before .if2 .taken in
+    let m = sym (c .before .before .before .sound-permissions .ensures) ∙ c .before .before .if2 .taken in
     rw (c .lawful .ensures, u, m)
 
 returns-3 : tie.Need-returns-3
 returns-3 c =
     let u = sym (c .before .before .before .before .sound-used .ensures) ∙ not-false _ (c .before .before .before .if1 .left) in
-    let m = sym (c .before .sound-marks .ensures) ∙ c .if2 .left in
+    let m = sym (c .before .sound-permissions .ensures) ∙ c .if2 .left in
     rw (u, m)
 
 pub sound-store-spec : {M : Type 1} → statement M

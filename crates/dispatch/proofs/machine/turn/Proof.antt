@@ -37,7 +37,7 @@ use Rattle.dispatch.proofs.machine.turn.Tie as tie
 module _ (c : tie.Start) where
   abbrev H : Held
   H =
-      held (c .args .m) (now (c .args .cells)) (now (c .args .used)) (now (c .args .marks)) (c .args .role) (now (c .args .inputs)) (now (c .args .frames)) (now (c .args .counts)) (now (c .args .vars))
+      held (c .args .m) (now (c .args .cells)) (now (c .args .used)) (now (c .args .permissions)) (c .args .role) (now (c .args .inputs)) (now (c .args .frames)) (now (c .args .counts)) (now (c .args .vars))
       (now (c .args .list)) (now (c .args .output))
 
   -- the table

@@ -17,19 +17,19 @@ use Rattle.interpreter.proofs.cycle.drive.Statement.{statement}
 use Rattle.interpreter.proofs.cycle.drive.Tie as tie
 
 abbrev Inv-loop : tie.InvT-loop
-Inv-loop cells used marks role inputs letter allowance vars₀ list output₀ frames₀ counts₀ slots₀ m₀ vars output frames counts slots m =
-    Entering allowance output₀ (ran cells used marks role letter allowance vars₀ inputs output₀) (held m cells used marks role inputs frames counts vars slots output)
+Inv-loop cells used permissions role inputs letter allowance vars₀ list output₀ frames₀ counts₀ slots₀ m₀ vars output frames counts slots m =
+    Entering allowance output₀ (ran cells used permissions role letter allowance vars₀ inputs output₀) (held m cells used permissions role inputs frames counts vars slots output)
 
 abbrev μ-loop : tie.MeasureT-loop
-μ-loop cells used marks role inputs letter allowance vars₀ list output₀ frames₀ counts₀ slots₀ m₀ vars output frames counts slots m =
+μ-loop cells used permissions role inputs letter allowance vars₀ list output₀ frames₀ counts₀ slots₀ m₀ vars output frames counts slots m =
     leftOver m
 
 abbrev Inv-loop2 : tie.InvT-loop2
-Inv-loop2 cells used marks role inputs letter allowance vars₀ list output₀ frames₀ counts₀ slots₀ m₀ t vars output frames counts slots m =
-    Stretch (held m₀ cells used marks role inputs frames₀ counts₀ vars₀ slots₀ output₀) t (held m cells used marks role inputs frames counts vars slots output)
+Inv-loop2 cells used permissions role inputs letter allowance vars₀ list output₀ frames₀ counts₀ slots₀ m₀ t vars output frames counts slots m =
+    Stretch (held m₀ cells used permissions role inputs frames₀ counts₀ vars₀ slots₀ output₀) t (held m cells used permissions role inputs frames counts vars slots output)
 
 abbrev μ-loop2 : tie.MeasureT-loop2
-μ-loop2 cells used marks role inputs letter allowance vars₀ list output₀ frames₀ counts₀ slots₀ m₀ t vars output frames counts slots m =
+μ-loop2 cells used permissions role inputs letter allowance vars₀ list output₀ frames₀ counts₀ slots₀ m₀ t vars output frames counts slots m =
     leftOver m
 
 -- what the function holds at the outer loop's head
@@ -38,12 +38,12 @@ module _ (c : tie.At-loop Inv-loop2 μ-loop2 Inv-loop μ-loop) where
   s = c .before .before
 
   abbrev H : Held
-  H = let l = c .loop in held (l .m) (now (s .args .cells)) (now (s .args .used)) (now (s .args .marks)) (s .args .role) (now (s .args .inputs)) (l .frames) (l .counts) (l .vars) (l .slots) (l .output)
+  H = let l = c .loop in held (l .m) (now (s .args .cells)) (now (s .args .used)) (now (s .args .permissions)) (s .args .role) (now (s .args .inputs)) (l .frames) (l .counts) (l .vars) (l .slots) (l .output)
 
   -- the run that it makes
   abbrev run : Outcome
   run =
-      ran (now (s .args .cells)) (now (s .args .used)) (now (s .args .marks)) (s .args .role) (s .args .letter) (s .args .allowance) (now (s .args .vars)) (now (s .args .inputs))
+      ran (now (s .args .cells)) (now (s .args .used)) (now (s .args .permissions)) (s .args .role) (s .args .letter) (s .args .allowance) (now (s .args .vars)) (now (s .args .inputs))
       (now (s .args .output))
 
 -- at the inner loop's
@@ -55,7 +55,7 @@ module _ (c : tie.At-loop2 Inv-loop2 μ-loop2 Inv-loop μ-loop) where
   H₂ =
       let a = s outer .args in
       let l = c .loop2 in
-      held (l .m) (now (a .cells)) (now (a .used)) (now (a .marks)) (a .role) (now (a .inputs)) (l .frames) (l .counts) (l .vars) (l .slots) (l .output)
+      held (l .m) (now (a .cells)) (now (a .used)) (now (a .permissions)) (a .role) (now (a .inputs)) (l .frames) (l .counts) (l .vars) (l .slots) (l .output)
 
   looping : Looping (s outer .args .allowance) (now (s outer .args .output)) (run outer) H₂
   looping = c .loop2 .inv .keeps _ _ _ (resume _ _ _ (H outer) (outer .loop .inv .loop) (c .before .before .if1 .taken))
@@ -69,7 +69,7 @@ module _ (c : tie.After-obey Inv-loop2 μ-loop2 Inv-loop μ-loop) where
   H′ =
       let a = s (outer inner) .args in
       let t = c .obey in
-      held (t .result) (now (a .cells)) (now (a .used)) (now (a .marks)) (a .role) (now (a .inputs)) (t .last .1 .1 .1 .1 .1 .1 .1 .0) (t .last .1 .1 .1 .1 .1 .1 .1 .1 .0)
+      held (t .result) (now (a .cells)) (now (a .used)) (now (a .permissions)) (a .role) (now (a .inputs)) (t .last .1 .1 .1 .1 .1 .1 .1 .0) (t .last .1 .1 .1 .1 .1 .1 .1 .1 .0)
       (t .last .1 .1 .1 .1 .1 .1 .1 .1 .1 .0) (t .last .1 .1 .1 .1 .1 .1 .1 .1 .1 .1 .0) (t .last .1 .1 .1 .1 .1 .1 .1 .1 .1 .1 .1 .0)
 
 loop-holds : tie.Need-loop-holds Inv-loop2 μ-loop2 Inv-loop μ-loop

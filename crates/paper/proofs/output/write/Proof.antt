@@ -50,7 +50,7 @@ returns-3 c = λ h.
     let p : perform (operator write) s ≡ x =
     rw (le-ltb _ _ (c .before .before .if2 .left)) (emitted-out s (column (top s)) writeWidth (column-width (top s)) (omega arith)) in
     _∙_ {b = effectTurn x (a .m .at + 1) (spotOf H)} (rw (c .stop3 .ensures))
-    (operate-turn (standsAt (h .used)) (barredAt (h .marks) (h .role)) _ (operator write) (a .m .at + 1) (spotOf H) x refl (c .before .before .before .if1 .left) p)
+    (operate-turn (standsAt (h .used)) (barredAt (h .permissions) (h .role)) _ (operator write) (a .m .at + 1) (spotOf H) x refl (c .before .before .before .if1 .left) p)
 
 returns-4 : tie.Need-returns-4
 unfolding perform
@@ -70,7 +70,7 @@ returns-4 c = λ h.
     let p : perform (operator write) s ≡ x = rw (le-ltb _ _ (held .if2 .left)) (emitted-fits s (column v) writeWidth (column-width v) fits) in
     _∙_ {b = effectTurn x (a .m .at + 1) (spotOf H)}
     (rw (c .go .ensures, e .0, e .1))
-    (operate-turn (standsAt (h .used)) (barredAt (h .marks) (h .role)) _ (operator write) (a .m .at + 1) (spotOf H) x refl (held .before .if1 .left) p)
+    (operate-turn (standsAt (h .used)) (barredAt (h .permissions) (h .role)) _ (operator write) (a .m .at + 1) (spotOf H) x refl (held .before .if1 .left) p)
 
 pub write-spec : {M : Type 1} → statement M
 write-spec =
