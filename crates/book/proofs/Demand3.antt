@@ -115,11 +115,11 @@ demand-3 = always ByTheBook by-the-book
 kept : Book → ℕ → Option Expr
 kept b l = cond (isLetter l) (textOf (b .texts) (letterIndex l)) none
 
--- and the mark
+-- and the permission
 keptPermission : Book → ℕ → ℕ
 keptPermission b l = cond (isLetter l) (permissionAt (b .permissions) (letterIndex l)) openPermission
 
--- a text's bytes and its expression, with the same mark; a letter without a text is open
+-- a text's bytes and its expression, with the same permission; a letter without a text is open
 abbrev Tracks : Option Standing → Option Expr → ℕ → Type 0
 Tracks none none k = openPermission ≡ k
 Tracks none (some w) k = ⊥
@@ -159,12 +159,12 @@ module _ {A : Type 0} (d : A) (xs : List A) (m : ℕ) (x : A) (letter : isLetter
           getD-set-other xs (letterIndex m) (letterIndex l) x d (λ q. ne (omega arith))
       go false e = refl
 
--- a book with a text and a mark for each letter
+-- a book with a text and a permission for each letter
 pub record Whole (b : Book) : Type 0 where
   pub texts : length (b .texts) ≡ maxLetters
   pub permissions : length (b .permissions) ≡ maxLetters
 
--- an accepted call of m: the bytes y, the expression z and the mark n stand of m from now on
+-- an accepted call of m: the bytes y, the expression z and the permission n stand of m from now on
 tracks-put : (b : Book) (l m : ℕ) (x y : Option Standing) (z : Option Expr) (n : ℕ) → Whole b → isLetter m ≡ true → Tracks y z n
     → Tracks x (kept b l) (keptPermission b l) →
     let b′ = withText b (letterIndex m) z n in
@@ -278,7 +278,7 @@ module _ (es : List Event) where
   read-tracks (some t) none n k = absurd k
   read-tracks (some t) (some w) n k = rw (k .0)
 
-  -- and so is its mark
+  -- and so is its permission
   permission-tracks : (x : Option Standing) (y : Option Expr) (n : ℕ) → Tracks x y n → permissionOf x ≡ n
   permission-tracks none none n k = k
   permission-tracks none (some w) n k = absurd k

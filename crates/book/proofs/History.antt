@@ -46,7 +46,7 @@ use Rattle.book.proofs.Sessions.{as-calls}
 
 -- ── a store and a book that agree ───────────────────────────────────────────────────────────────
 
--- each letter's table is that of its text, and marks and variables are the same
+-- each letter's table is that of its text, and permissions and variables are the same
 pub record Agree (st : Store) (b : Book) : Type 0 where
   pub space : Spacious st
   pub texts : length (b .texts) ≡ maxLetters
@@ -97,7 +97,7 @@ unfolding exprOf
 entry-full t k (refused r) e = length-replicate maxCells (pos 0)
 entry-full t k (accepted w) e = length-layout w (accepted-used t w e)
 
--- marks of which one is put are the two still
+-- permissions of which one is put are the two still
 put-permissions : (l : List ℕ) (a k : ℕ) → soundPermissions l ≡ true → isPermission k ≡ true → soundPermissions (set l a k) ≡ true
 unfolding soundPermissions
 put-permissions [] a k h e = h

@@ -38,7 +38,7 @@ abbrev pub isText : Option Expr → Bool
 isText none = false
 isText (some w) = true
 
--- the book with another text of letter a, or none, and the mark k beside it
+-- the book with another text of letter a, or none, and the permission k beside it
 unfoldable pub withText : Book → ℕ → Option Expr → ℕ → Book
 withText b a x k = record { texts = set (b .texts) a x; permissions = set (b .permissions) a k; variables = b .variables }
 
@@ -46,7 +46,7 @@ withText b a x k = record { texts = set (b .texts) a x; permissions = set (b .pe
 unfoldable pub withVariables : Book → List ℤ → Book
 withVariables b v = record { texts = b .texts; permissions = b .permissions; variables = v }
 
--- "Any other run obeys its letter's text by the nested meaning, over the book's texts and variables", with its role and the book's marks. (A letter
+-- "Any other run obeys its letter's text by the nested meaning, over the book's texts and variables", with its role and the book's permissions. (A letter
 -- without a text is refused before.)
 unfoldable pub obeyed : Book → Run → Option Expr → Outcome
 unfolding meaning start textOf

@@ -13,7 +13,7 @@ pub record Run : Type 0 where
   pub list : List ℤ
   pub output : List ℕ
 
--- A call's arguments beside the store: a letter, a mark and a text; a letter; or a run.
+-- A call's arguments beside the store: a letter, a permission and a text; a letter; or a run.
 pub data Call : Type 0 where
   defines : ℕ → ℕ → List ℕ → Call
   withdraws : ℕ → Call

@@ -23,7 +23,7 @@ use Rattle.book.specs.Sessions.{answers, after}
 abbrev sevens : ℕ → List ℤ
 sevens n = replicate n (pos 7)
 
--- define letter l as the text t, with the mark k
+-- define letter l as the text t, with the permission k
 abbrev D′ : Char → ℕ → String → Call
 D′ l k t = defines (code l) k (bytes t)
 
@@ -260,7 +260,7 @@ lendings =
 
 -- ── what a store keeps ──────────────────────────────────────────────────────────────────────────
 
--- calls from the fresh store, and the mark and the used cells of a letter after them, a as 0; a cleared letter has none
+-- calls from the fresh store, and the permission and the used cells of a letter after them, a as 0; a cleared letter has none
 pub record Keeping : Type 0 where
   pub calls : List Call
   pub letter : ℕ
@@ -271,15 +271,15 @@ pub record Keeping : Type 0 where
 abbrev pub sizes : Store → List ℕ
 sizes st = length (st .cells) ∷ length (st .used) ∷ length (st .permissions) ∷ length (st .variables) ∷ []
 
--- what the store keeps of a letter: its count, its mark and its cells
+-- what the store keeps of a letter: its count, its permission and its cells
 abbrev pub keptIn : Store → ℕ → List ℕ × ℕ × ℕ × List ℤ
 keptIn st a = (sizes st, entryAt st a .table .used, entryAt st a .permission, entryAt st a .table .cells)
 
--- what calls leave in the store, and which mark in the book
+-- what calls leave in the store, and which permission in the book
 abbrev pub kept : Keeping → (List ℕ × ℕ × ℕ × List ℤ) × ℕ
 kept x = (keptIn (after storeCall freshStore (x .calls)) (x .letter), permissionAt (after bookCall freshBook (x .calls) .permissions) (x .letter))
 
--- what they should leave: "26 letters' tables with their used-cell counts, and ten variables", each table of 250 cells, and 26 marks
+-- what they should leave: "26 letters' tables with their used-cell counts, and ten variables", each table of 250 cells, and 26 permissions
 abbrev pub dueKept : Keeping → (List ℕ × ℕ × ℕ × List ℤ) × ℕ
 dueKept x = ((6500 ∷ 26 ∷ 26 ∷ 10 ∷ [], length (x .cells), x .permission, x .cells ++ zeros (250 - length (x .cells))), x .permission)
 
@@ -328,7 +328,7 @@ HoldFound xs = map found xs ≡ map dueFound xs
 abbrev holding : List ℤ → Store
 holding c = storeOf (pos 2000 ∷ c) (suc (length c) ∷ []) [] fresh
 
--- the store whose letters a and b have these cells after their first; of b's n are used, and its mark is k
+-- the store whose letters a and b have these cells after their first; of b's n are used, and its permission is k
 abbrev marked : List ℤ → List ℤ → ℕ → ℕ → Store
 marked c d n k = storeOf (pos 2000 ∷ c ++ zeros (249 - length c) ++ pos 2000 ∷ d) (suc (length c) ∷ n ∷ []) (0 ∷ k ∷ []) fresh
 

@@ -50,7 +50,7 @@ soundStore st = soundUsed (st .used) && soundPermissions (st .permissions) && la
 
 -- ── one letter's entry ──────────────────────────────────────────────────────────────────────────
 
--- What a store holds of one letter: its code table with its used-cell count, and its mark.
+-- What a store holds of one letter: its code table with its used-cell count, and its permission.
 pub record Entry : Type 0 where
   pub table : Table
   pub permission : ℕ
@@ -69,7 +69,7 @@ withEntry st a e =
       variables = st .variables;
     }
 
--- the entry of a text, or of a cleared letter, with the mark k
+-- the entry of a text, or of a cleared letter, with the permission k
 abbrev pub entryOf : Option Expr → ℕ → Entry
 entryOf x k = record { table = tableOf x; permission = k }
 

@@ -27,11 +27,11 @@ use Rattle.book.specs.declared.Refusal.{Refusal}
 use Rattle.book.specs.Refusals.{refusal, answer}
 use Rattle.book.specs.Store.{Store, storeRan, storeAccepts, storeView, storeCall, changed, answered}
 use Rattle.lines.specs.Lines.{badLine, Request, define, withdraw, run, bad, request}
-use Rattle.figures.specs.declared.Figures.{Figures}
-use Rattle.figures.specs.Printed as Printed
-use Rattle.figures.specs.Printed.{figures, mostBytes, paper, top}
-use Rattle.figures.proofs.Printed.{figures-most}
-use Rattle.commands.specs.Served.{outputBytes, paperBytes, ranFigures, serves, shown, granted, deskLine, Performed, performs, printed, performed}
+use Rattle.columns.specs.declared.LineColumns.{LineColumns}
+use Rattle.columns.specs.Printed as Printed
+use Rattle.columns.specs.Printed.{columns, mostBytes, paper, top}
+use Rattle.columns.proofs.Printed.{columns-most}
+use Rattle.commands.specs.Served.{outputBytes, paperBytes, ranColumns, serves, shown, granted, deskLine, Performed, performs, printed, performed}
 
 -- ── a run's figures ─────────────────────────────────────────────────────────────────────────────
 
@@ -67,13 +67,13 @@ paper-most [] = omega arith
 paper-most (b ∷ o) = omega (arith, length-append (b ∷ o) (newlineByte ∷ []))
 
 -- a define or a withdraw c, which left the store st′ and answered n
-pub told-printed : (st st′ : Store) (k n : ℕ) (c : Call) (o o′ : List ℕ) (r : ℕ) → changed st′ n c ≡ storeCall st c
-    → wrote r o′ ≡ written o 0 (figures (Printed.told k n))
-    → performs st′ r o′ ≡ printed o (serves (storeCall st c .kept) (figures (Printed.told k (storeCall st c .reply .report .number))))
+pub changed-printed : (st st′ : Store) (k n : ℕ) (c : Call) (o o′ : List ℕ) (r : ℕ) → changed st′ n c ≡ storeCall st c
+    → wrote r o′ ≡ written o 0 (columns (Printed.plainColumns k n))
+    → performs st′ r o′ ≡ printed o (serves (storeCall st c .kept) (columns (Printed.plainColumns k (storeCall st c .reply .report .number))))
 unfolding tells
-told-printed st st′ k n c o o′ r e p =
+changed-printed st st′ k n c o o′ r e p =
     (λ i. record { store = st′; paper = p i })
-    ∙ ap (λ (x : Answered Store). printed o (serves (x .kept) (figures (Printed.told k (x .reply .report .number))))) e
+    ∙ ap (λ (x : Answered Store). printed o (serves (x .kept) (columns (Printed.plainColumns k (x .reply .report .number))))) e
 
 -- a run that left the store st′, the list p and the output o, and reported r
 module _ (st st′ : Store) (k l n : ℕ) (i p : List ℤ) (o : List ℕ) (r : Report)
@@ -86,19 +86,19 @@ module _ (st st′ : Store) (k l n : ℕ) (i p : List ℤ) (o : List ℕ) (r : R
       (subst (λ (y : Answered Store). Bounded (length lent) (y .reply)) (sym e) (run-bounded st x))
 
   pub run-printed : (b : List ℕ) (v : ℤ) {m s : ℕ} {b₁ b₂ : List ℕ} → paperBytes ≤ length b → r .written ≤ length o → v ≡ top p (r .height)
-      → wrote m b₁ ≡ written b 0 (figures (record { line = k; answer = r .number; truth = r .truth; steps = r .steps; height = r .height; top = v }))
+      → wrote m b₁ ≡ written b 0 (columns (record { line = k; answer = r .number; truth = r .truth; steps = r .steps; height = r .height; top = v }))
       → wrote s b₂ ≡ written b₁ m (paper (take (r .written) o))
       → performs st′ s b₂ ≡ printed b (granted storeCall st k (run l n i))
   unfolding granted shown
   run-printed b v room w g h q =
-      let f : Figures = record { line = k; answer = r .number; truth = r .truth; steps = r .steps; height = r .height; top = v } in
-      let most = figures-most f in
+      let f : LineColumns = record { line = k; answer = r .number; truth = r .truth; steps = r .steps; height = r .height; top = v } in
+      let most = columns-most f in
       let size = paper-most (take (r .written) o) in
       let len = length-take-le (r .written) o w in
       let z = bounded .written in
-      (λ j. record { store = st′; paper = written-two b 0 (figures f) (paper (take (r .written) o)) h q (omega arith) j })
-      ∙ ap (λ (y : ℤ). printed b (serves st′ (figures (record { line = k; answer = r .number; truth = r .truth; steps = r .steps; height = r .height; top = y }) ++ paper (take (r .written) o)))) g
-      ∙ ap (λ (x : Answered Store). printed b (serves (x .kept) (figures (ranFigures k (x .reply)) ++ paper (take (x .reply .report .written) (x .reply .output))))) e
+      (λ j. record { store = st′; paper = written-two b 0 (columns f) (paper (take (r .written) o)) h q (omega arith) j })
+      ∙ ap (λ (y : ℤ). printed b (serves st′ (columns (record { line = k; answer = r .number; truth = r .truth; steps = r .steps; height = r .height; top = y }) ++ paper (take (r .written) o)))) g
+      ∙ ap (λ (x : Answered Store). printed b (serves (x .kept) (columns (ranColumns k (x .reply)) ++ paper (take (x .reply .report .written) (x .reply .output))))) e
 
 -- ── a line ──────────────────────────────────────────────────────────────────────────────────────
 
@@ -116,8 +116,8 @@ two-most a b m n h g = simp length-append (omega arith)
 -- what a request prints has room
 granted-most : (st : Store) (k : ℕ) (q : Request) → length (granted storeCall st k q .bytes) ≤ paperBytes
 unfolding granted shown
-granted-most st k (define l t) = omega (arith, figures-most (Printed.told k (storeCall st (defines l openPermission t) .reply .report .number)))
-granted-most st k (withdraw l) = omega (arith, figures-most (Printed.told k (storeCall st (withdraws l) .reply .report .number)))
+granted-most st k (define l t) = omega (arith, columns-most (Printed.plainColumns k (storeCall st (defines l openPermission t) .reply .report .number)))
+granted-most st k (withdraw l) = omega (arith, columns-most (Printed.plainColumns k (storeCall st (withdraws l) .reply .report .number)))
 granted-most st k (run l n i) =
     let lent : List ℕ = replicate outputBytes 0 in
     let x : Run = record { letter = l; role = cashierRole; allowance = n; inputs = i; list = replicate maxHeight (pos 0); output = lent } in
@@ -127,8 +127,8 @@ granted-most st k (run l n i) =
     omega (arith, run-bounded st x .written, length-replicate {A = ℕ} outputBytes 0)
     in
     let most : length (paper shows) ≤ outputBytes + 1 = omega (arith, paper-most shows, length-take (r .report .written) (r .output)) in
-    le-trans (two-most (figures (ranFigures k r)) (paper shows) mostBytes (outputBytes + 1) (figures-most (ranFigures k r)) most) (omega arith)
-granted-most st k bad = omega (arith, figures-most (Printed.told k badLine))
+    le-trans (two-most (columns (ranColumns k r)) (paper shows) mostBytes (outputBytes + 1) (columns-most (ranColumns k r)) most) (omega arith)
+granted-most st k bad = omega (arith, columns-most (Printed.plainColumns k badLine))
 
 -- what a line prints has room
 pub line-most : (st : Store) (k : ℕ) (s : List ℕ) → length (deskLine storeCall st k s .bytes) ≤ paperBytes

@@ -12,20 +12,20 @@ use Rattle.book.specs.Calls.{Call, defines, withdraws, running}
 use Rattle.book.specs.Replies.{Reply, Answered}
 use Rattle.book.specs.Store.{Store, storeCall}
 use Rattle.lines.specs.Lines.{badLine, Request, define, withdraw, run, bad, request}
-use Rattle.figures.specs.declared.Figures.{Figures}
-use Rattle.figures.specs.Printed.{figures, told, paper, top}
+use Rattle.columns.specs.declared.LineColumns.{LineColumns}
+use Rattle.columns.specs.Printed.{columns, plainColumns, paper, top}
 
 -- "a run's output (4,096 bytes lent)"
 abbrev pub outputBytes : ℕ
 outputBytes = 4096
 
--- room for what a line can print: its figures, a run's output and a newline
+-- room for what a line can print: its columns, a run's output and a newline
 abbrev pub paperBytes : ℕ
 paperBytes = 4200
 
--- the figures of a run's reply in line k
-abbrev pub ranFigures : ℕ → Reply → Figures
-ranFigures k r =
+-- the columns of a run's reply in line k
+abbrev pub ranColumns : ℕ → Reply → LineColumns
+ranColumns k r =
     record {
       line = k;
       answer = r .report .number;
@@ -44,23 +44,23 @@ pub record Served (S : Type 0) : Type 0 where
 abbrev pub serves : {S : Type 0} → S → List ℕ → Served S
 serves s b = record { kept = s; bytes = b }
 
--- what a run prints: its figures, and its output, if any
+-- what a run prints: its columns, and its output, if any
 unfoldable pub shown : ℕ → Reply → List ℕ
-unfolding figures paper top
-shown k r = figures (ranFigures k r) ++ paper (take (r .report .written) (r .output))
+unfolding columns paper top
+shown k r = columns (ranColumns k r) ++ paper (take (r .report .written) (r .output))
 
 -- Of a store or a book s that answers its calls by f:
 module _ {S : Type 0} (f : S → Call → Answered S) where
   -- what it is after the request of line k, and the bytes printed; a run is lent 64 list places and "4,096 bytes". Document 02, U7: "On the desk program
   -- `D` defines open letters and `R` runs as a cashier."
   unfoldable pub granted : S → ℕ → Request → Served S
-  unfolding figures shown
-  granted s k (define l t) = let x = f s (defines l openPermission t) in serves (x .kept) (figures (told k (x .reply .report .number)))
-  granted s k (withdraw l) = let x = f s (withdraws l) in serves (x .kept) (figures (told k (x .reply .report .number)))
+  unfolding columns shown
+  granted s k (define l t) = let x = f s (defines l openPermission t) in serves (x .kept) (columns (plainColumns k (x .reply .report .number)))
+  granted s k (withdraw l) = let x = f s (withdraws l) in serves (x .kept) (columns (plainColumns k (x .reply .report .number)))
   granted s k (run l n i) =
       let x = f s (running l cashierRole n i (replicate maxHeight (pos 0)) (replicate outputBytes 0)) in
       serves (x .kept) (shown k (x .reply))
-  granted s k bad = serves s (figures (told k badLine))
+  granted s k bad = serves s (columns (plainColumns k badLine))
 
   -- the same of the bytes of line k, without its newline
   unfoldable pub deskLine : S → ℕ → List ℕ → Served S

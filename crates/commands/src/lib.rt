@@ -3,14 +3,14 @@ ghost use mathlib.Core.Path.{_≡_};
 ghost use Prim.Native.Nat.{_≤_};
 ghost use lib.ListN.{length};
 ghost use Rattle.numerals.specs.Numerals.{wrote, written};
-ghost use Rattle.figures.specs.Printed.{figures, told};
+ghost use Rattle.columns.specs.Printed.{columns, plainColumns};
 ghost use Rattle.book.specs.Store.{storeOf, storeCall};
 ghost use Rattle.lines.specs.Lines.{run};
 ghost use Rattle.commands.specs.Served.{paperBytes, granted, printed, performs, performed};
-use figures::Figures;
-use figures::top;
-use figures::write_figures;
-use figures::write_output;
+use columns::LineColumns;
+use columns::top;
+use columns::write_columns;
+use columns::write_output;
 use language::CASHIER;
 use language::HEIGHT;
 use language::LETTERS;
@@ -26,14 +26,14 @@ use lines::parse;
 // "a run's output (4,096 bytes lent)"
 const OUTPUT: usize = 4096;
 
-// Room for what a line can print: its figures, a run's output and a newline.
+// Room for what a line can print: its columns, a run's output and a newline.
 pub const PAPER: usize = 4200;
 
 // "zeros for `D` and `X` and for refusals"
 fn tell(paper: &mut [u8], line: u32, answer: u32) -> usize
-    ensures { λ r. ⌜ wrote r (now (paper .exit)) ≡ written (now (paper .entry)) 0 (figures (told line answer)) ⌝ }
+    ensures { λ r. ⌜ wrote r (now (paper .exit)) ≡ written (now (paper .entry)) 0 (columns (plainColumns line answer)) ⌝ }
 {
-    let f = Figures {
+    let f = LineColumns {
         line,
         answer,
         truth: false,
@@ -41,7 +41,7 @@ fn tell(paper: &mut [u8], line: u32, answer: u32) -> usize
         height: 0,
         top: 0,
     };
-    write_figures(paper, 0, f)
+    write_columns(paper, 0, f)
 }
 
 // `R` letter allowance inputs: "`R` runs as a cashier".
@@ -77,7 +77,7 @@ fn execute(
     );
     let height = report.height;
     let count = report.written;
-    let f = Figures {
+    let f = LineColumns {
         line,
         answer: report.number,
         truth: report.truth,
@@ -85,7 +85,7 @@ fn execute(
         height: height as u32,
         top: top(&list, height),
     };
-    let end = write_figures(paper, 0, f);
+    let end = write_columns(paper, 0, f);
     write_output(paper, end, &output[..count])
 }
 

@@ -19,7 +19,7 @@ use Rattle.book.specs.Book.{freshBook, bookCall}
 use Rattle.book.specs.Store.{freshStore, storeCall}
 use Rattle.book.specs.Sessions.{answers}
 use Rattle.book.proofs.History.{calls-agree}
-use Rattle.figures.specs.Printed.{figures, told}
+use Rattle.columns.specs.Printed.{columns, plainColumns}
 use Rattle.commands.specs.Served.{outputBytes, Served, shown, granted, deskLine}
 use Rattle.console.specs.Day.{maxLines, lastLine, linesFrom, Progress, starts, session, dayFrom, dayOf, DayOfStore}
 use Rattle.console.specs.Steps.{lineEnd, keptBytes}
@@ -47,8 +47,8 @@ module _ {S T : Type 0} (f : S → Call → Answered S) (g : T → Call → Answ
   alike-request : (s : S) (t : T) (k : ℕ) (q : Request) → Alike s t
       → (granted f s k q .bytes ≡ granted g t k q .bytes) × Alike (granted f s k q .kept) (granted g t k q .kept)
   unfolding granted
-  alike-request s t k (define l x) h = (ap (λ (r : Reply). figures (told k (r .report .number))) (alike-reply s t (defines l openPermission x) h), alike-next s t (defines l openPermission x) h)
-  alike-request s t k (withdraw l) h = (ap (λ (r : Reply). figures (told k (r .report .number))) (alike-reply s t (withdraws l) h), alike-next s t (withdraws l) h)
+  alike-request s t k (define l x) h = (ap (λ (r : Reply). columns (plainColumns k (r .report .number))) (alike-reply s t (defines l openPermission x) h), alike-next s t (defines l openPermission x) h)
+  alike-request s t k (withdraw l) h = (ap (λ (r : Reply). columns (plainColumns k (r .report .number))) (alike-reply s t (withdraws l) h), alike-next s t (withdraws l) h)
   alike-request s t k (run l n i) h = let c = lendsRun l n i in (ap (λ (r : Reply). shown k r) (alike-reply s t c h), alike-next s t c h)
   alike-request s t k bad h = (refl, h)
 

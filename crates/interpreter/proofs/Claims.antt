@@ -20,9 +20,9 @@ use Rattle.book.specs.Events.{Event, asked}
 use Rattle.book.specs.Demand3.{Always}
 use Rattle.book.proofs.Refusals.{refusal-refuses, free-run}
 use Rattle.book.proofs.Demand3.{history, always, permissions-after}
-use Rattle.operands.specs.Loop.{Spot, Turn, continues, enters, finishes, halt, instructionTurn, decodedTurn}
+use Rattle.operands.specs.Loop.{Configuration, Turn, continues, enters, finishes, halt, instructionTurn, decodedTurn}
 use Rattle.interpreter.specs.declared.cycle.Fetched.{Fetched}
-use Rattle.interpreter.specs.Fetching.{fetched, Stand, Progress, next, over, turnBy, proceeds, turnedOn, course, comesTo, startsAt, leaves, onTurn, goesOn}
+use Rattle.interpreter.specs.Fetching.{fetched, Point, Progress, next, over, turnBy, proceeds, turnedOn, course, comesTo, startsAt, leaves, onTurn, goesOn}
 use Rattle.interpreter.specs.Claims.{PairStored, GoOnAlike, turnsOf, AnswersRemain, ObeysNone}
 use Rattle.interpreter.proofs.Allowed.{Allowed, AllowedTurn, decoded-allowed}
 use Rattle.interpreter.proofs.Loop.{runAt, after, turn-run, Stays, decoded-stays}
@@ -31,7 +31,7 @@ use Rattle.interpreter.proofs.Loop.{runAt, after, turn-run, Stays, deco
 
 -- the pair that is held is the store's for the letter
 abbrev Paired : List ℕ → Progress → Type 0
-Paired u (next s) = s .pair ≡ fetched u (s .spot .letter)
+Paired u (next s) = s .pair ≡ fetched u (s .configuration .letter)
 Paired u (over o) = Unit {0}
 
 module _ (c : List ℤ) (u k : List ℕ) (r : ℕ) where
@@ -43,10 +43,10 @@ module _ (c : List ℤ) (u k : List ℕ) (r : ℕ) where
   on-paired : (x : Progress) → Paired u x → Paired u (turnedOn c u k r x)
   on-paired (next s) e =
       let p = s .pair in
-      turn-paired p (s .spot .letter) (turnBy c u k r p (s .spot)) e (decoded-stays (standsAt u) (barredAt k r) (decode (tableFrom c (p .base) (p .end)) (s .spot .cell)) (s .spot))
+      turn-paired p (s .configuration .letter) (turnBy c u k r p (s .configuration)) e (decoded-stays (standsAt u) (barredAt k r) (decode (tableFrom c (p .base) (p .end)) (s .configuration .cell)) (s .configuration))
   on-paired (over o) e = tt
 
-  course-paired : (n : ℕ) (m : Spot) → Paired u (course c u k r n m)
+  course-paired : (n : ℕ) (m : Configuration) → Paired u (course c u k r n m)
   unfolding course
   course-paired zero m = refl
   course-paired (suc n) m = on-paired (course c u k r n m) (course-paired n m)
@@ -58,19 +58,19 @@ pair-stored c u k r m n s e = subst (Paired u) e (course-paired c u k r n m)
 -- ── until a call or a return is due ─────────────────────────────────────────────────────────────
 
 -- a turn that is no call and no return does not ask which letters stand
-instruction-alike : (f g b : ℕ → Bool) (i : Instruction) (m : Spot) → leaves (code i) ≡ false → instructionTurn f b i m ≡ instructionTurn g b i m
+instruction-alike : (f g b : ℕ → Bool) (i : Instruction) (m : Configuration) → leaves (code i) ≡ false → instructionTurn f b i m ≡ instructionTurn g b i m
 instruction-alike f g b (transfer n) m e = refl
 instruction-alike f g b fail m e = refl
 instruction-alike f g b (operateAt o n) m e = refl
 instruction-alike f g b (testAt p n x) m e = refl
 instruction-alike f g b (callAt a n x) m e = absurd (true≢false e)
 
-decoded-alike : (f g b : ℕ → Bool) (x : Decoded) (m : Spot) → leaves x ≡ false → decodedTurn f b x m ≡ decodedTurn g b x m
+decoded-alike : (f g b : ℕ → Bool) (x : Decoded) (m : Configuration) → leaves x ≡ false → decodedTurn f b x m ≡ decodedTurn g b x m
 decoded-alike f g b last m e = refl
 decoded-alike f g b damaged m e = refl
 decoded-alike f g b (code i) m e = ap (cond (eqb (m .left) 0) (halt Spent m)) (instruction-alike f g b i m e)
 
-on-alike : (f g : Spot → Turn) → ((m : Spot) → f m ≡ g m) → (t : Turn) → onTurn t f ≡ onTurn t g
+on-alike : (f g : Configuration → Turn) → ((m : Configuration) → f m ≡ g m) → (t : Turn) → onTurn t f ≡ onTurn t g
 on-alike f g h (continues m) = h m
 on-alike f g h (enters m) = refl
 on-alike f g h (finishes o) = refl
@@ -102,12 +102,12 @@ module _ (c : List ℤ) (u k : List ℕ) (r : ℕ) where
   unfolding after runAt
   on-comes (over o) e = refl
   on-comes (next s) e =
-      let m = s .spot in
+      let m = s .configuration in
       turn-comes (s .pair) (turnBy c u k r (s .pair) m)
       ∙ ap (λ (p : Fetched). after (decodeAt c u) (standsAt u) (barredAt k r) (turnBy c u k r p m)) e
       ∙ sym (turn-run (decodeAt c u) (standsAt u) (barredAt k r) m)
 
-  course-comes : (j : ℕ) (m : Spot) → comesTo c u k r (course c u k r j m) ≡ comesTo c u k r (course c u k r zero m)
+  course-comes : (j : ℕ) (m : Configuration) → comesTo c u k r (course c u k r j m) ≡ comesTo c u k r (course c u k r zero m)
   unfolding course
   course-comes zero m = refl
   course-comes (suc j) m = on-comes (course c u k r j m) (course-paired c u k r j m) ∙ course-comes j m
@@ -140,7 +140,7 @@ answers-remain st x h n =
 
 -- a mark is next in such a letter, or the run is over
 abbrev AllowedProgress : (ℕ → Bool) → Progress → Type 0
-AllowedProgress barred (next s) = Allowed barred (s .spot)
+AllowedProgress barred (next s) = Allowed barred (s .configuration)
 AllowedProgress barred (over o) = Unit {0}
 
 module _ (c : List ℤ) (u k : List ℕ) (r : ℕ) where
@@ -152,18 +152,18 @@ module _ (c : List ℤ) (u k : List ℕ) (r : ℕ) where
   on-allowed : (x : Progress) → AllowedProgress (barredAt k r) x → AllowedProgress (barredAt k r) (turnedOn c u k r x)
   on-allowed (next s) h =
       let p = s .pair in
-      proceeds-allowed p (turnBy c u k r p (s .spot))
-      (decoded-allowed (barredAt k r) (standsAt u) (decode (tableFrom c (p .base) (p .end)) (s .spot .cell)) (s .spot) h)
+      proceeds-allowed p (turnBy c u k r p (s .configuration))
+      (decoded-allowed (barredAt k r) (standsAt u) (decode (tableFrom c (p .base) (p .end)) (s .configuration .cell)) (s .configuration) h)
   on-allowed (over o) h = tt
 
-  course-allowed : (n : ℕ) (m : Spot) → Allowed (barredAt k r) m → AllowedProgress (barredAt k r) (course c u k r n m)
+  course-allowed : (n : ℕ) (m : Configuration) → Allowed (barredAt k r) m → AllowedProgress (barredAt k r) (course c u k r n m)
   unfolding course
   course-allowed zero m h = h
   course-allowed (suc n) m h = on-allowed (course c u k r n m) (course-allowed n m h)
 
 -- Of any store: before every mark the letter then obeyed is for the caller.
-only-allowed : (st : Store) (x : Run) (n : ℕ) (z : Stand) → barredAt (st .permissions) (x .role) (letterIndex (x .letter)) ≡ false → turnsOf st x n ≡ next z
-    → barredAt (st .permissions) (x .role) (z .spot .letter) ≡ false
+only-allowed : (st : Store) (x : Run) (n : ℕ) (z : Point) → barredAt (st .permissions) (x .role) (letterIndex (x .letter)) ≡ false → turnsOf st x n ≡ next z
+    → barredAt (st .permissions) (x .role) (z .configuration .letter) ≡ false
 only-allowed st x n z h e =
     subst (AllowedProgress (barredAt (st .permissions) (x .role))) e
     (course-allowed (st .cells) (st .used) (st .permissions) (x .role) n
@@ -178,7 +178,7 @@ obeys-none-then : (es : List Event) → ObeysNone (history es)
 obeys-none-then es x h n z e =
     let st = history es .store in
     let k = only-allowed st x n z (not-refused st x (h .accepted) .allowed) e in
-    open-permission (x .role) _ (h .role) (ap (bars (x .role)) (sym (permissions-after es (z .spot .letter))) ∙ k)
+    open-permission (x .role) _ (h .role) (ap (bars (x .role)) (sym (permissions-after es (z .configuration .letter))) ∙ k)
 
 pub obeys-none : Always ObeysNone
 obeys-none = always ObeysNone obeys-none-then

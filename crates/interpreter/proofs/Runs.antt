@@ -18,7 +18,7 @@ use Rattle.language.specs.Tables.{decodeAt, standsAt, barredAt}
 use Rattle.book.specs.Replies.{replied, reported}
 use Rattle.operands.specs.declared.Machine.{Machine}
 use Rattle.operands.specs.Loop.{Turn, continues, enters, finishes}
-use Rattle.operands.specs.Held.{Held, frameNumbers, stateOf, spotOf, endingOf, outcome, onMachine, withState}
+use Rattle.operands.specs.Held.{Held, frameNumbers, stateOf, configurationOf, endingOf, outcome, onMachine, withState}
 use Rattle.operands.specs.Turns.{dueAt}
 use Rattle.operands.proofs.Held.{length-frames, ending-known, ending-high}
 use Rattle.interpreter.specs.declared.cycle.Fetched.{Fetched}
@@ -42,11 +42,11 @@ pub record Entering (n : ℕ) (o : List ℕ) (r : Outcome) (h : Held) : Type 0 w
   pub between : h .machine .state ≡ 0 → ⊥
 
 -- the code goes on
-going : (h : Held) → h .machine .state ≡ 0 → outcome h ≡ continues (spotOf h)
+going : (h : Held) → h .machine .state ≡ 0 → outcome h ≡ continues (configurationOf h)
 going h e = rw (eq-eqb _ _ e)
 
 -- it enters a letter's code
-entering : (h : Held) → h .machine .state ≡ 3 → outcome h ≡ enters (spotOf h)
+entering : (h : Held) → h .machine .state ≡ 3 → outcome h ≡ enters (configurationOf h)
 entering h e = rw e
 
 -- and goes on there
@@ -69,12 +69,12 @@ kept-of n o g (enters m) h = h .0
 kept-of n o g (finishes (ended t s r)) h = h
 kept-of n o g (finishes (stopped k s r)) h = h
 
--- where it goes on, the spot fits
-pub fit-of : (n : ℕ) (o : List ℕ) (h : Held) → h .machine .state ≡ 0 → Kept n o (outcome h) → Fit n o (spotOf h)
+-- where it goes on, the configuration fits
+pub fit-of : (n : ℕ) (o : List ℕ) (h : Held) → h .machine .state ≡ 0 → Kept n o (outcome h) → Fit n o (configurationOf h)
 fit-of n o h e k = subst (λ (t : Turn). Kept n o t) (going h e) k
 
 -- and its letter is for the caller
-pub allowed-of : (n : ℕ) (o : List ℕ) (r : Outcome) (h : Held) → Looping n o r h → h .machine .state ≡ 0 → Allowed (barredAt (h .permissions) (h .role)) (spotOf h)
+pub allowed-of : (n : ℕ) (o : List ℕ) (r : Outcome) (h : Held) → Looping n o r h → h .machine .state ≡ 0 → Allowed (barredAt (h .permissions) (h .role)) (configurationOf h)
 allowed-of n o r h loop e = subst (λ (t : Turn). AllowedTurn (barredAt (h .permissions) (h .role)) t) (going h e) (loop .allowed)
 
 beyond : (u : List ℕ) (a : ℕ) → length u ≤ a → getD u a 0 ≡ 0
@@ -111,14 +111,14 @@ module _ (n : ℕ) (o : List ℕ) (r : Outcome) (h : Held) (h′ : Held) (p : Fe
     (pair : p ≡ fetched (h .used) (h .machine .letter)) (turned-by : outcome h′ ≡ dueAt (h .cells) (p .base) (p .end) h)
     (letters : length (h .used) ≡ maxLetters) (counted : Counted (h .used)) where
   -- over the pair of the letter's table, it is the table machine's turn
-  turned : outcome h′ ≡ oneTurn (decodeAt (h .cells) (h .used)) (standsAt (h .used)) (barredAt (h .permissions) (h .role)) (spotOf h)
+  turned : outcome h′ ≡ oneTurn (decodeAt (h .cells) (h .used)) (standsAt (h .used)) (barredAt (h .permissions) (h .role)) (configurationOf h)
   turned = turned-by ∙ ap (λ (x : Fetched). dueAt (h .cells) (x .base) (x .end) h) pair
 
   -- the letter is the same where the code goes on, so the pair is its
   pub same-pair : h′ .machine .state ≡ 0 → p ≡ fetched (h .used) (h′ .machine .letter)
   same-pair e =
       let d = decodeAt (h .cells) (h .used) (h .machine .letter) (h .machine .at) in
-      let k : h′ .machine .letter ≡ h .machine .letter = subst (λ (t : Turn). Stays (h .machine .letter) t) (sym turned ∙ going h′ e) (decoded-stays (standsAt (h .used)) (barredAt (h .permissions) (h .role)) d (spotOf h)) in
+      let k : h′ .machine .letter ≡ h .machine .letter = subst (λ (t : Turn). Stays (h .machine .letter) t) (sym turned ∙ going h′ e) (decoded-stays (standsAt (h .used)) (barredAt (h .permissions) (h .role)) d (configurationOf h)) in
       pair ∙ ap (fetched (h .used)) (sym k)
 
   comes-again : after (decodeAt (h .cells) (h .used)) (standsAt (h .used)) (barredAt (h .permissions) (h .role)) (outcome h′) ≡ r
@@ -127,19 +127,19 @@ module _ (n : ℕ) (o : List ℕ) (r : Outcome) (h : Held) (h′ : Held) (p : Fe
       let f = decodeAt (h .cells) (h .used) in
       let s = standsAt (h .used) in
       let b = barredAt (h .permissions) (h .role) in
-      ap (λ (t : Turn). after f s b t) turned ∙ sym (turn-run f s b (spotOf h)) ∙ sym (ap (λ (t : Turn). after f s b t) (going h goes)) ∙ loop .comes
+      ap (λ (t : Turn). after f s b t) turned ∙ sym (turn-run f s b (configurationOf h)) ∙ sym (ap (λ (t : Turn). after f s b t) (going h goes)) ∙ loop .comes
 
-  sound : Sound n o (toGo (spotOf h)) (outcome h′)
+  sound : Sound n o (toGo (configurationOf h)) (outcome h′)
   sound =
-      subst (λ (t : Turn). Sound n o (toGo (spotOf h)) t) (sym turned)
-      (decoded-sound n o (standsAt (h .used)) (barredAt (h .permissions) (h .role)) (standing (h .used) letters) (decodeAt (h .cells) (h .used) (h .machine .letter) (h .machine .at)) (spotOf h)
+      subst (λ (t : Turn). Sound n o (toGo (configurationOf h)) t) (sym turned)
+      (decoded-sound n o (standsAt (h .used)) (barredAt (h .permissions) (h .role)) (standing (h .used) letters) (decodeAt (h .cells) (h .used) (h .machine .letter) (h .machine .at)) (configurationOf h)
       (decode-within _ (counted (h .machine .letter)) (h .machine .at)) (fit-of n o h goes (loop .kept)))
 
   -- the letter is for the caller, and so is the next
   allowed-again : AllowedTurn (barredAt (h .permissions) (h .role)) (outcome h′)
   allowed-again =
       subst (λ (t : Turn). AllowedTurn (barredAt (h .permissions) (h .role)) t) (sym turned)
-      (decoded-allowed (barredAt (h .permissions) (h .role)) (standsAt (h .used)) (decodeAt (h .cells) (h .used) (h .machine .letter) (h .machine .at)) (spotOf h)
+      (decoded-allowed (barredAt (h .permissions) (h .role)) (standsAt (h .used)) (decodeAt (h .cells) (h .used) (h .machine .letter) (h .machine .at)) (configurationOf h)
       (allowed-of n o r h loop goes))
 
   -- it is kept
@@ -147,7 +147,7 @@ module _ (n : ℕ) (o : List ℕ) (r : Outcome) (h : Held) (h′ : Held) (p : Fe
   again c u k w f =
       record {
         comes = rw (c, u, k, w) comes-again;
-        kept = kept-of n o (toGo (spotOf h)) (outcome h′) sound;
+        kept = kept-of n o (toGo (configurationOf h)) (outcome h′) sound;
         allowed = rw (k, w) allowed-again;
         size = f;
       }
@@ -157,14 +157,14 @@ module _ (n : ℕ) (o : List ℕ) (r : Outcome) (h : Held) (h′ : Held) (p : Fe
   unfolding leftOver
   falls = rw (eq-eqb _ _ goes) (go (eqb (h′ .machine .state) 0) (eqb (h′ .machine .state) 3) refl refl)
     where
-      less : toGo (spotOf h′) < toGo (spotOf h)
+      less : toGo (configurationOf h′) < toGo (configurationOf h)
           → suc (h′ .machine .left + h′ .machine .left + h′ .machine .depth) < suc (h .machine .left + h .machine .left + h .machine .depth)
       less k = omega (arith, length-frames (h .frames) (h .machine .depth), length-frames (h′ .frames) (h′ .machine .depth))
 
       go : (u v : Bool) → eqb (h′ .machine .state) 0 ≡ u → eqb (h′ .machine .state) 3 ≡ v
           → cond (cond u true v) (suc (h′ .machine .left + h′ .machine .left + h′ .machine .depth)) 0 < suc (h .machine .left + h .machine .left + h .machine .depth)
-      go true v q w = less (subst (λ (t : Turn). Sound n o (toGo (spotOf h)) t) (going h′ (eqb-true _ _ q)) sound .1)
-      go false true q w = less (subst (λ (t : Turn). Sound n o (toGo (spotOf h)) t) (entering h′ (eqb-true _ _ w)) sound .1)
+      go true v q w = less (subst (λ (t : Turn). Sound n o (toGo (configurationOf h)) t) (going h′ (eqb-true _ _ q)) sound .1)
+      go false true q w = less (subst (λ (t : Turn). Sound n o (toGo (configurationOf h)) t) (entering h′ (eqb-true _ _ w)) sound .1)
       go false false q w = omega arith
 
 -- ── the turns over one table ────────────────────────────────────────────────────────────────────

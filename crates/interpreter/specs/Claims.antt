@@ -13,19 +13,19 @@ use Rattle.book.specs.Refusals.{isRefusal}
 use Rattle.book.specs.Store.{Store, storeCall}
 use Rattle.book.specs.History.{History, standing, permissionOf}
 use Rattle.book.specs.Demand3.{runAfter}
-use Rattle.operands.specs.Loop.{Spot}
+use Rattle.operands.specs.Loop.{Configuration}
 use Rattle.interpreter.specs.declared.cycle.Fetched.{Fetched}
-use Rattle.interpreter.specs.Fetching.{fetched, Stand, Progress, next, course, comesTo, startsAt, goesOn}
+use Rattle.interpreter.specs.Fetching.{fetched, Point, Progress, next, course, comesTo, startsAt, goesOn}
 
--- "before every mark the fetched pair is the store's for the letter then obeyed". For any store and any run, from any spot. proofs/Claims `pair-stored`
+-- "before every mark the fetched pair is the store's for the letter then obeyed". For any store and any run, from any configuration. proofs/Claims `pair-stored`
 abbrev pub PairStored : Type 0
 PairStored =
-    (c : List ℤ) (u k : List ℕ) (r : ℕ) (m : Spot) (n : ℕ) (s : Stand) → course c u k r n m ≡ next s → s .pair ≡ fetched u (s .spot .letter)
+    (c : List ℤ) (u k : List ℕ) (r : ℕ) (m : Configuration) (n : ℕ) (s : Point) → course c u k r n m ≡ next s → s .pair ≡ fetched u (s .configuration .letter)
 
 -- "Two stores that differ only in used-cell counts, given the same pair at the same point of otherwise equal runs, go on alike until a call or return is
 -- due." proofs/Claims `go-on-alike`
 abbrev pub GoOnAlike : Type 0
-GoOnAlike = (c : List ℤ) (u v k : List ℕ) (r : ℕ) (p : Fetched) (n : ℕ) (m : Spot) → goesOn c u k r p n m ≡ goesOn c v k r p n m
+GoOnAlike = (c : List ℤ) (u v k : List ℕ) (r : ℕ) (p : Fetched) (n : ℕ) (m : Configuration) → goesOn c u k r p n m ≡ goesOn c v k r p n m
 
 -- a run x of the store st after n turns, each of them a mark obeyed or a return: the letter and the cell that are next, or what the run came to
 abbrev pub turnsOf : Store → Run → ℕ → Progress
@@ -55,4 +55,4 @@ pub record CashierRuns (h : History) (x : Run) : Type 0 where
 -- It obeys no mark of a letter that is a steward's then, through however many letters: whatever number of turns it has made, the letter whose mark is next
 -- is not a steward's. So of every session of a program. proofs/Claims `obeys-none`
 abbrev pub ObeysNone : History → Type 0
-ObeysNone h = (x : Run) → CashierRuns h x → (n : ℕ) (z : Stand) → turnsOf (h .store) x n ≡ next z → isStewards h (z .spot .letter) ≡ false
+ObeysNone h = (x : Run) → CashierRuns h x → (n : ℕ) (z : Point) → turnsOf (h .store) x n ≡ next z → isStewards h (z .configuration .letter) ≡ false

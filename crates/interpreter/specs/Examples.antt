@@ -9,7 +9,7 @@ use Rattle.language.specs.Answers.{endingNumber}
 use Rattle.language.specs.Effects.{start}
 use Rattle.language.specs.Meaning.{Outcome, ended, stopped}
 use Rattle.language.specs.Trials.{neg}
-use Rattle.operands.specs.Loop.{spot, Turn, continues, enters, finishes}
+use Rattle.operands.specs.Loop.{configuration, Turn, continues, enters, finishes}
 use Rattle.interpreter.specs.Fetching.{Progress, next, over, course, startsAt, goesOn}
 
 -- letter a has the text `(b;)`, and letter b `(;)`
@@ -26,10 +26,10 @@ outcome (stopped e s r) = endingNumber e ∷ r ∷ []
 
 -- what is held: the start and the used-cell count that were fetched, the letter, and the due cell
 abbrev pub shown : Progress → List ℕ
-shown (next s) = s .pair .base ∷ s .pair .end ∷ s .spot .letter ∷ s .spot .cell ∷ []
+shown (next s) = s .pair .base ∷ s .pair .end ∷ s .configuration .letter ∷ s .configuration .cell ∷ []
 shown (over o) = outcome o
 
--- after n turns of a run of a with an allowance of 100, where b has the mark k, by a caller with the role r
+-- after n turns of a run of a with an allowance of 100, where b has the permission k, by a caller with the role r
 abbrev pub heldBy : ℕ → ℕ → ℕ → List ℕ
 heldBy k r n = shown (course cells counts (0 ∷ k ∷ replicate 24 0) r n (startsAt 0 100 [] [] []))
 
@@ -58,7 +58,7 @@ placed (finishes o) = outcome o
 
 -- at most nine turns from cell q of a, over counts u and with the pair of these two
 abbrev pub from : List ℕ → ℕ → ℕ → ℕ → List ℕ
-from u base end q = placed (goesOn cells u [] 0 (record { base = base; end = end }) 9 (spot 0 q [] (start [] [] []) 100))
+from u base end q = placed (goesOn cells u [] 0 (record { base = base; end = end }) 9 (configuration 0 q [] (start [] [] []) 100))
 
 -- The pair says which table is obeyed, whatever the store's counts are: a's to its last cell, where a return is due; a's at its last `)`, where one is due
 -- too; a's at its call; a's with a count too few, which is damage; b's in place of a's.

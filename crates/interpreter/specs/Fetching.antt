@@ -13,7 +13,7 @@ use Rattle.language.specs.Meaning.{Outcome}
 use Rattle.language.specs.Machine.{Decoded, last, damaged, code, transfer, fail, operateAt, testAt, callAt, decode, arrive, run}
 use Rattle.language.specs.Tables.{tableFrom, decodeAt, standsAt, barredAt}
 use Rattle.operands.specs.declared.Machine.{Machine}
-use Rattle.operands.specs.Loop.{Spot, spot, Turn, continues, enters, finishes, decodedTurn}
+use Rattle.operands.specs.Loop.{Configuration, configuration, Turn, continues, enters, finishes, decodedTurn}
 use Rattle.dispatch.specs.Turning.{Turning}
 use Rattle.interpreter.specs.declared.cycle.Fetched.{Fetched}
 
@@ -22,7 +22,7 @@ abbrev pub fetched : List ℕ → ℕ → Fetched
 fetched u a = record { base = a * maxCells; end = getD u a 0 }
 
 -- A mark can be obeyed: a turn can be made over the table that was fetched, "the fetched pair is the store's for the letter then obeyed", and that letter,
--- by its mark of the marks k, is for a caller with the role r (document 02, U7).
+-- by its permission of the permissions k, is for a caller with the role r (document 02, U7).
 pub record Obeying (u k : List ℕ) (r : ℕ) (p : Fetched) (m : Machine) (f o : List ℕ) : Type 0 where
   pub turning : Turning (p .base) (p .end) m f o
   pub pair : p ≡ fetched u (m .letter)
@@ -31,38 +31,38 @@ pub record Obeying (u k : List ℕ) (r : ℕ) (p : Fetched) (m : Machine) (f o :
 -- ── a run ───────────────────────────────────────────────────────────────────────────────────────
 
 -- what the runner holds before a mark: the fetched pair, and where the run stands
-pub record Stand : Type 0 where
+pub record Point : Type 0 where
   pub pair : Fetched
-  pub spot : Spot
+  pub configuration : Configuration
 
 -- a mark is next, or the run is over
 pub data Progress : Type 0 where
-  next : Stand → Progress
+  next : Point → Progress
   over : Outcome → Progress
 
--- over a store with the cells c, the used-cell counts u and the marks k, for a caller with the role r
+-- over a store with the cells c, the used-cell counts u and the permissions k, for a caller with the role r
 module _ (c : List ℤ) (u k : List ℕ) (r : ℕ) where
   -- the turn at the due cell of the table that was fetched
-  abbrev pub turnBy : Fetched → Spot → Turn
+  abbrev pub turnBy : Fetched → Configuration → Turn
   turnBy p m = decodedTurn (standsAt u) (barredAt k r) (decode (tableFrom c (p .base) (p .end)) (m .cell)) m
 
   -- a letter's code is entered: its pair is fetched
-  abbrev pub entered : Spot → Progress
-  entered m = next (record { pair = fetched u (m .letter); spot = m })
+  abbrev pub entered : Configuration → Progress
+  entered m = next (record { pair = fetched u (m .letter); configuration = m })
 
   -- after a turn: "at a call and at a return, and nowhere between"
   abbrev pub proceeds : Fetched → Turn → Progress
-  proceeds p (continues m) = next (record { pair = p; spot = m })
+  proceeds p (continues m) = next (record { pair = p; configuration = m })
   proceeds p (enters m) = entered m
   proceeds p (finishes o) = over o
 
   -- one turn on
   abbrev pub turnedOn : Progress → Progress
-  turnedOn (next s) = proceeds (s .pair) (turnBy (s .pair) (s .spot))
+  turnedOn (next s) = proceeds (s .pair) (turnBy (s .pair) (s .configuration))
   turnedOn (over o) = over o
 
-  -- what is held after n turns of a run from that spot, the pair fetched "when a run starts"
-  unfoldable pub course : ℕ → Spot → Progress
+  -- what is held after n turns of a run from that configuration, the pair fetched "when a run starts"
+  unfoldable pub course : ℕ → Configuration → Progress
   course zero m = entered m
   course (suc n) m = turnedOn (course n m)
 
@@ -70,12 +70,12 @@ module _ (c : List ℤ) (u k : List ℕ) (r : ℕ) where
   abbrev pub comesTo : Progress → Outcome
   comesTo (over o) = o
   comesTo (next s) =
-      let m = s .spot in
+      let m = s .configuration in
       run (decodeAt c u) (standsAt u) (barredAt k r) (m .left) (arrive (decodeAt c u) (standsAt u) (barredAt k r) (m .frames) (m .letter) (m .cell)) (m .state)
 
 -- where a run of letter a starts, with allowance n, variables v, inputs i and output o
-abbrev pub startsAt : ℕ → ℕ → List ℤ → List ℤ → List ℕ → Spot
-startsAt a n v i o = spot a codeStart [] (start v i o) n
+abbrev pub startsAt : ℕ → ℕ → List ℤ → List ℤ → List ℕ → Configuration
+startsAt a n v i o = configuration a codeStart [] (start v i o) n
 
 -- ── until a call or a return is due ─────────────────────────────────────────────────────────────
 
@@ -90,13 +90,13 @@ leaves (code (testAt p n f)) = false
 leaves (code (callAt a n f)) = true
 
 -- on from a turn that goes on
-abbrev pub onTurn : Turn → (Spot → Turn) → Turn
+abbrev pub onTurn : Turn → (Configuration → Turn) → Turn
 onTurn (continues m) k = k m
 onTurn (enters m) k = enters m
 onTurn (finishes o) k = finishes o
 
--- over a store, with the pair p: at most n turns from a spot, until a call or a return is due
-unfoldable pub goesOn : List ℤ → List ℕ → List ℕ → ℕ → Fetched → ℕ → Spot → Turn
+-- over a store, with the pair p: at most n turns from a configuration, until a call or a return is due
+unfoldable pub goesOn : List ℤ → List ℕ → List ℕ → ℕ → Fetched → ℕ → Configuration → Turn
 goesOn c u k r p zero m = continues m
 goesOn c u k r p (suc n) m =
     cond (leaves (decode (tableFrom c (p .base) (p .end)) (m .cell))) (continues m) (onTurn (turnBy c u k r p m) (goesOn c u k r p n))

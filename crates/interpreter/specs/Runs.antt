@@ -14,13 +14,14 @@ use Rattle.language.specs.Meaning.{Outcome}
 use Rattle.language.specs.Tables.{barredAt, execute}
 use Rattle.book.specs.declared.Report.{Report}
 use Rattle.book.specs.Replies.{replied, reported}
+use Rattle.book.specs.Store.{Store}
 use Rattle.operands.specs.declared.Machine.{Machine}
 
 -- no used-cell count is over 250
 abbrev pub Counted : List ℕ → Type 0
 Counted u = (a : ℕ) → getD u a 0 ≤ maxCells
 
--- a run of the letter with index a can be made over the used-cell counts u, the marks k and the list's places p by a caller with the role r
+-- a run of the letter with index a can be made over the used-cell counts u, the permissions k and the list's places p by a caller with the role r
 pub record Startable (a : ℕ) (u k : List ℕ) (r : ℕ) (p : List ℤ) : Type 0 where
   pub letter : a < maxLetters
   pub allowed : barredAt k r a ≡ false
@@ -33,12 +34,20 @@ pub record Filling (p s : List ℤ) : Type 0 where
   pub places : length p ≡ maxHeight
   pub slots : length s ≡ maxHeight
 
--- What a run comes to: of the letter with index a over the cells c, the used-cell counts u and the marks k, by a caller with the role r, with allowance
--- n, variables v, inputs i and output o.
-abbrev pub ran : List ℤ → List ℕ → List ℕ → ℕ → ℕ → ℕ → List ℤ → List ℤ → List ℕ → Outcome
-ran c u k r a n v i o = execute c u k r a n (start v i o)
+-- a run's arguments beside the store, as the interpreter takes them: its letter is an index, a as 0
+pub record Launch : Type 0 where
+  pub letter : ℕ
+  pub role : ℕ
+  pub allowance : ℕ
+  pub inputs : List ℤ
+  pub output : List ℕ
 
--- the figures that the machine's numbers come to once its state is not 0, after an allowance of n
+-- what a run of a store comes to
+abbrev pub ran : Store → Launch → Outcome
+ran st x =
+    execute (st .cells) (st .used) (st .permissions) (x .role) (x .letter) (x .allowance) (start (st .variables) (x .inputs) (x .output))
+
+-- the report that the machine's numbers come to once its state is not 0, after an allowance of n
 abbrev pub reportFrom : ℕ → Machine → Report
 reportFrom n m =
     record {

@@ -2,6 +2,7 @@
 ghost use mathlib.Core.Path.{_≡_};
 ghost use Prim.Native.Nat.{_<_};
 ghost use Rattle.language.specs.Limits.{maxLetters};
+ghost use Rattle.book.specs.Store.{storeOf};
 ghost use Rattle.operands.specs.Held.{held};
 ghost use Rattle.dispatch.specs.Turning.{Turned};
 ghost use Rattle.interpreter.specs.Runs.{Startable, Filling, Over, Driven, reportFrom, ran};
@@ -101,7 +102,8 @@ pub fn drive<'a>(
 ) -> Machine
     requires { ⌜ Startable letter (now used) (now permissions) role (now list) ⌝ }
     ensures { λ r. ⌜ Driven allowance
-        (ran (now (cells .entry)) (now (used .entry)) (now (permissions .entry)) role letter allowance (now (vars .entry)) (now (inputs .entry)) (now (output .entry)))
+        (ran (storeOf (now (cells .entry)) (now (used .entry)) (now (permissions .entry)) (now (vars .entry)))
+        (record { letter = letter; role = role; allowance = allowance; inputs = now (inputs .entry); output = now (output .entry) }))
         r (now (vars .exit)) (now (list .exit)) (now (output .exit)) ⌝ }
 {
     let mut frames = [0u32; FRAMES];
@@ -141,7 +143,7 @@ pub fn drive<'a>(
     m
 }
 
-// The figures of a run that is over.
+// The report of a run that is over.
 pub fn report(m: Machine, allowance: u32) -> Report
     requires { ⌜ Over allowance m ⌝ }
     ensures { λ r. ⌜ r ≡ reportFrom allowance m ⌝ }

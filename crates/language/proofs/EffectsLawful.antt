@@ -15,7 +15,7 @@ use Rattle.language.specs.Syntax.{negative, null, equal, Operation, oper
 use Rattle.language.specs.Between.{between}
 use Rattle.language.specs.Tokens.{printByte}
 use Rattle.language.specs.Layout.{forward}
-use Rattle.language.specs.Effects.{State, Effect, goes, stops, Verdict, stalls, needs, ranged, pushed, emitted, inked, replaced, dropped, combined, withTaken, operated, perform, ask, top, column, countIndex}
+use Rattle.language.specs.Effects.{State, Effect, goes, stops, Verdict, stopsBy, needs, ranged, pushed, emitted, emittedState, replaced, dropped, combined, withTaken, operated, perform, ask, top, column, countIndex}
 use Rattle.language.specs.Values.{isValue, lawful}
 use Rattle.language.specs.Machine.{Instruction, transfer, fail, operateAt, testAt, callAt, Decoded, last, damaged, code, Kind, isConstant, isPrint, isCounter, isNone, isOperator, isVariable, isCondition, isCall, kind, cell, sound, natural, minus, exitAt, bytesAt, room, mark, early, exactly, decode}
 use Rattle.language.specs.Effects.{start}
@@ -111,7 +111,7 @@ module _ (s : State) (h : Sane s) where
 
   sane-emitted : (b : List ℕ) → SaneEffect (emitted s b)
   sane-emitted b =
-      effect-cond Sane (leb (s .written + length b) (length (s .output))) (goes (inked s b)) (stops PaperOut)
+      effect-cond Sane (leb (s .written + length b) (length (s .output))) (goes (emittedState s b)) (stops PaperOut)
       (record { stack = h .stack; inputs = h .inputs; variables = h .variables }) tt
 
   sane-operated : (o : Operator) → SaneEffect (operated o s)
@@ -147,9 +147,9 @@ module _ (s : State) (h : Sane s) where
 
   sane-asked : (l : ℕ) (p : Predicate) → SaneVerdict (ask l p s)
   unfolding ask
-  sane-asked l (condition negative) = verdict-cond Sane (ltb (s .height) 1) (stalls ListEmpty) _ tt h
-  sane-asked l (condition null) = verdict-cond Sane (ltb (s .height) 1) (stalls ListEmpty) _ tt h
-  sane-asked l (condition equal) = verdict-cond Sane (ltb (s .height) 2) (stalls ListEmpty) _ tt h
+  sane-asked l (condition negative) = verdict-cond Sane (ltb (s .height) 1) (stopsBy ListEmpty) _ tt h
+  sane-asked l (condition null) = verdict-cond Sane (ltb (s .height) 1) (stopsBy ListEmpty) _ tt h
+  sane-asked l (condition equal) = verdict-cond Sane (ltb (s .height) 2) (stopsBy ListEmpty) _ tt h
   sane-asked l (counter m k) =
       verdict-cond Sane (ltb (getD (s .counts) (countIndex l k) 0) (suc m)) _ _
       (record { stack = h .stack; inputs = h .inputs; variables = h .variables })

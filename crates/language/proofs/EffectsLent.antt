@@ -14,7 +14,7 @@ use Rattle.language.specs.declared.Ending.the-variants.{ListEmpty, ListF
 use Rattle.language.specs.Limits.{maxHeight, maxVariables}
 use Rattle.language.specs.Syntax.{Operator, absolute, discard, negate, copy, write, newline, input, add, subtract, multiply, divide, fetch, save}
 use Rattle.language.specs.Syntax.{negative, null, equal, Operation, operator, variable, constant, print, Predicate, condition, counter}
-use Rattle.language.specs.Effects.{State, Effect, goes, stops, stalls, needs, ranged, pushed, emitted, inked, replaced, dropped, combined, withStack, withTaken, operated, perform, ask, top, column, countIndex}
+use Rattle.language.specs.Effects.{State, Effect, goes, stops, stopsBy, needs, ranged, pushed, emitted, emittedState, replaced, dropped, combined, withStack, withTaken, operated, perform, ask, top, column, countIndex}
 use Rattle.language.specs.Values.{isValue}
 use Rattle.language.specs.Meaning.{Outcome, ended, stopped}
 use Rattle.language.specs.Machine.{Decoded, last, damaged, code, transfer, fail, operateAt, testAt, callAt}
@@ -113,7 +113,7 @@ module _ (o : List ℕ) where
     lent-emitted : (b : List ℕ) → LentEffect (emitted s b)
     lent-emitted b = go (leb (s .written + length b) (length (s .output))) refl
       where
-        go : (u : Bool) → leb (s .written + length b) (length (s .output)) ≡ u → LentEffect (cond u (goes (inked s b)) (stops PaperOut))
+        go : (u : Bool) → leb (s .written + length b) (length (s .output)) ≡ u → LentEffect (cond u (goes (emittedState s b)) (stops PaperOut))
         go true e =
             let le = leb-true (s .written + length b) (length (s .output)) e in
             record {
@@ -164,9 +164,9 @@ module _ (o : List ℕ) where
   -- and so does a predicate
   pub lent-asked : (l : ℕ) (p : Predicate) (s : State) → Lent o s → VerdictSo (Lent o) (ask l p s)
   unfolding ask
-  lent-asked l (condition negative) s h = verdict-cond (Lent o) (ltb (s .height) 1) (stalls ListEmpty) _ tt h
-  lent-asked l (condition null) s h = verdict-cond (Lent o) (ltb (s .height) 1) (stalls ListEmpty) _ tt h
-  lent-asked l (condition equal) s h = verdict-cond (Lent o) (ltb (s .height) 2) (stalls ListEmpty) _ tt h
+  lent-asked l (condition negative) s h = verdict-cond (Lent o) (ltb (s .height) 1) (stopsBy ListEmpty) _ tt h
+  lent-asked l (condition null) s h = verdict-cond (Lent o) (ltb (s .height) 1) (stopsBy ListEmpty) _ tt h
+  lent-asked l (condition equal) s h = verdict-cond (Lent o) (ltb (s .height) 2) (stopsBy ListEmpty) _ tt h
   lent-asked l (counter m k) s h =
       verdict-cond (Lent o) (ltb (getD (s .counts) (countIndex l k) 0) (suc m)) _ _
       (record { places = h .places; height = h .height; above = h .above; written = h .written; bytes = h .bytes; past = h .past })

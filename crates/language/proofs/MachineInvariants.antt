@@ -8,7 +8,7 @@ use lib.Dec.{ltb}
 use Rattle.language.specs.declared.Ending.the-variants.{DeepCalls}
 use Rattle.language.specs.Limits.{maxCalls}
 use Rattle.language.specs.Syntax.{Operation, Predicate}
-use Rattle.language.specs.Effects.{State, Effect, goes, stops, Verdict, answers, stalls, perform, ask}
+use Rattle.language.specs.Effects.{State, Effect, goes, stops, Verdict, answers, stopsBy, perform, ask}
 use Rattle.language.specs.Meaning.{Outcome, ended, stopped}
 use Rattle.language.specs.Machine.{Instruction, transfer, fail, operateAt, testAt, callAt, Decoded, last, damaged, code, Frame, Due, over, broken, due, pick, present, arrived, onEffect, onVerdict, return, arrive, turn, run}
 use Rattle.language.specs.Effects.{onCall}
@@ -50,7 +50,7 @@ module _ (P : State → Type 0) where
   -- a verdict that leaves such a state
   abbrev pub VerdictSo : Verdict → Type 0
   VerdictSo (answers t s) = P s
-  VerdictSo (stalls e) = Unit {0}
+  VerdictSo (stopsBy e) = Unit {0}
 
   -- an outcome with such a state
   abbrev pub OutcomeSo : Outcome → Type 0
@@ -75,7 +75,7 @@ module _ (P : State → Type 0) where
       → ((t : Bool) (s′ : State) → P s′ → OutcomeSo (k t s′)) → OutcomeSo (onVerdict x s r k)
   unfolding onVerdict
   on-verdict (answers t s′) s r k p h f = f t s′ h
-  on-verdict (stalls e) s r k p h f = p
+  on-verdict (stopsBy e) s r k p h f = p
 
   outcome-cond : (u : Bool) (x y : Outcome) → OutcomeSo x → OutcomeSo y → OutcomeSo (cond u x y)
   outcome-cond true x y h k = h

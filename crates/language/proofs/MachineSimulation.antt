@@ -12,7 +12,7 @@ use Rattle.language.specs.declared.Ending.the-variants.{Spent, NoText, D
 use Rattle.language.specs.Limits.{maxCalls}
 use Rattle.language.specs.Roles.{bars}
 use Rattle.language.specs.Syntax.{Expr, close, semi, colon, operate, test, call, inner}
-use Rattle.language.specs.Effects.{State, Effect, goes, stops, Verdict, answers, stalls, perform, ask}
+use Rattle.language.specs.Effects.{State, Effect, goes, stops, Verdict, answers, stopsBy, perform, ask}
 use Rattle.language.specs.Meaning.{Outcome, ended, stopped, meaning}
 use Rattle.language.specs.Machine.{Instruction, transfer, operateAt, testAt, callAt, Decoded, last, code, Frame, Due, over, due, pick, present, arrived, onEffect, onVerdict, return, arrive, turn, run}
 use Rattle.language.specs.Effects.{onCall}
@@ -37,7 +37,7 @@ rel-verdict : (n : ℕ) (f : Bool → State → ℕ → Outcome) (x : Verdict) (
     → ((t : Bool) (s′ : State) → Rel n f (k t s′) (k′ t s′)) → Rel n f (onVerdict x s r k) (onVerdict x s r k′)
 unfolding Rel onVerdict
 rel-verdict n f (answers t s′) s r k k′ h = h t s′
-rel-verdict n f (stalls i) s r k k′ h = refl
+rel-verdict n f (stopsBy i) s r k k′ h = refl
 
 rel-cond : (n : ℕ) (f : Bool → State → ℕ → Outcome) (u : Bool) (x x′ y y′ : Outcome) → Rel n f x x′ → Rel n f y y′
     → Rel n f (cond u x y) (cond u x′ y′)

@@ -18,7 +18,7 @@ use Rattle.language.specs.Syntax.{Expr, close, semi, colon, operate, tes
 use Rattle.language.specs.Tokens.{ends}
 use Rattle.language.specs.Between.{between}
 use Rattle.language.specs.Reading.{ending}
-use Rattle.language.specs.Effects.{State, Effect, goes, stops, Verdict, answers, stalls, needs, ranged, pushed, emitted, operated, perform, ask, countIndex, withTaken, top, column, onCall}
+use Rattle.language.specs.Effects.{State, Effect, goes, stops, Verdict, answers, stopsBy, needs, ranged, pushed, emitted, operated, perform, ask, countIndex, withTaken, top, column, onCall}
 use Rattle.language.specs.Values.{isValue}
 use Rattle.language.specs.Roles.{bars}
 use Rattle.language.specs.Meaning.{Outcome, ended, stopped, meaning}
@@ -43,7 +43,7 @@ ProperEffect (stops e) = Common e ≡ true
 -- and so is a predicate
 abbrev ProperVerdict : Verdict → Type 0
 ProperVerdict (answers t s) = Unit {0}
-ProperVerdict (stalls e) = Common e ≡ true
+ProperVerdict (stopsBy e) = Common e ≡ true
 
 proper-cond : (u : Bool) (x y : Effect) → ProperEffect x → ProperEffect y → ProperEffect (cond u x y)
 proper-cond true x y h k = h
@@ -89,9 +89,9 @@ proper-performed (print b) s = proper-emitted s b
 
 proper-asked : (l : ℕ) (p : Predicate) (s : State) → ProperVerdict (ask l p s)
 unfolding ask
-proper-asked l (condition negative) s = asked-cond (ltb (s .height) 1) (stalls ListEmpty) (answers _ s) refl tt
-proper-asked l (condition null) s = asked-cond (ltb (s .height) 1) (stalls ListEmpty) (answers _ s) refl tt
-proper-asked l (condition equal) s = asked-cond (ltb (s .height) 2) (stalls ListEmpty) (answers _ s) refl tt
+proper-asked l (condition negative) s = asked-cond (ltb (s .height) 1) (stopsBy ListEmpty) (answers _ s) refl tt
+proper-asked l (condition null) s = asked-cond (ltb (s .height) 1) (stopsBy ListEmpty) (answers _ s) refl tt
+proper-asked l (condition equal) s = asked-cond (ltb (s .height) 2) (stopsBy ListEmpty) (answers _ s) refl tt
 proper-asked l (counter m k) s = asked-cond (ltb (getD (s .counts) (countIndex l k) 0) (suc m)) (answers true _) (answers false _) tt tt
 
 -- ── the texts ───────────────────────────────────────────────────────────────────────────────────
@@ -132,7 +132,7 @@ module _ (P : Ending → Type 0) (R : ℕ → Type 0) (texts : ℕ → Option Ex
       → StopsSo P (onVerdict x s r k)
   unfolding onVerdict
   stops-verdict (answers t s′) s r k h f = f t s′
-  stops-verdict (stalls e) s r k h f = common e h
+  stops-verdict (stopsBy e) s r k h f = common e h
 
   stops-then : (x : Outcome) (k : Bool → State → ℕ → Outcome) → StopsSo P x → ((t : Bool) (s : State) (r : ℕ) → StopsSo P (k t s r))
       → StopsSo P (andThen x k)

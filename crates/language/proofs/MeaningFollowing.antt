@@ -6,7 +6,7 @@ use mathlib.Core.Option.{Option}
 use Rattle.language.specs.declared.Ending.the-variants.{Spent}
 use Rattle.language.specs.Roles.{bars}
 use Rattle.language.specs.Syntax.{Expr, close, semi, colon, operate, test, call, inner}
-use Rattle.language.specs.Effects.{State, goes, stops, answers, stalls, perform, ask, onCall}
+use Rattle.language.specs.Effects.{State, goes, stops, answers, stopsBy, perform, ask, onCall}
 use Rattle.language.specs.Meaning.{Outcome, ended, stopped, obey, skip, meaning}
 use Rattle.language.specs.Machine.{onEffect, onVerdict}
 
@@ -87,9 +87,9 @@ module _ (texts : ℕ → Option Expr) (permissions : ℕ → ℕ) (role : ℕ) 
   both (operate o e) false w s r = both e false w s r
   both (test p e) true w s zero = refl
   both (test p e) true w s (suc r) =
-      (elim (ask l p s) as (λ x. elim x [ answers true s′ ↦ obey texts permissions role again l d e w s′ r | answers false s′ ↦ skip texts permissions role again l d e w s′ r | stalls k ↦ stopped k s (suc r) ]
+      (elim (ask l p s) as (λ x. elim x [ answers true s′ ↦ obey texts permissions role again l d e w s′ r | answers false s′ ↦ skip texts permissions role again l d e w s′ r | stopsBy k ↦ stopped k s (suc r) ]
       ≡ onVerdict x s (suc r) (λ t s′. follow texts permissions role again l w d e t s′ r))
-      [ answers true s′ ↦ both e true w s′ r | answers false s′ ↦ both e false w s′ r | stalls k ↦ refl ])
+      [ answers true s′ ↦ both e true w s′ r | answers false s′ ↦ both e false w s′ r | stopsBy k ↦ refl ])
   both (test p e) false w s r = both e false w s r
   both (call a e) true w s zero = refl
   both (call a e) true w s (suc r) =

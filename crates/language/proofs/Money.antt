@@ -18,7 +18,7 @@ use Rattle.language.specs.Decimals.{digits, decimals}
 use Rattle.language.specs.Tokens.{signed}
 use Rattle.language.specs.Money.{unitCents, pointed, amount, money, readUnits, readAmount, withSign, readMoney}
 use Rattle.language.specs.declared.Ending.the-variants.{ListEmpty, PaperOut}
-use Rattle.language.specs.Effects.{State, Effect, goes, stops, top, inked, column, perform}
+use Rattle.language.specs.Effects.{State, Effect, goes, stops, top, emittedState, column, perform}
 use Rattle.language.specs.Statements.{ColumnWidth, ReadBack, ColumnsDiffer, Shows, ShowsTop, PaperOutExactly}
 use Rattle.language.proofs.Decimals.{many, few, length-decimals, length-justified}
 use Rattle.language.proofs.TokensComplete.{digit-true, digit-of}
@@ -149,14 +149,14 @@ goingTo s (goes t) = t
 goingTo s (stops e) = s
 
 -- what `O` has written where it goes on
-inked-shows : (s : State) → isValue (top s) ≡ true → s .written + length (column (top s)) ≤ length (s .output) → Shows s (inked s (column (top s)))
-inked-shows s v h =
+emittedState-shows : (s : State) → isValue (top s) ≡ true → s .written + length (column (top s)) ≤ length (s .output) → Shows s (emittedState s (column (top s)))
+emittedState-shows s v h =
     let c = column (top s) in
     let w = column-width (top s) in
     record {
       longer = ap (λ (k : ℕ). s .written + k) w;
       reads =
-          ap (λ (k : ℕ). readMoney (take k (drop (s .written) (inked s c .output)))) (sym w)
+          ap (λ (k : ℕ). readMoney (take k (drop (s .written) (emittedState s c .output)))) (sym w)
           ∙ ap readMoney (pasted (s .output) c (s .written) h)
           ∙ read-back (top s) v;
     }
@@ -166,9 +166,9 @@ unfolding perform
 shows-top s t v e = go (ltb (s .height) 1) (leb (s .written + length (column (top s))) (length (s .output))) refl e
   where
     go : (u w : Bool) → leb (s .written + length (column (top s))) (length (s .output)) ≡ w
-        → cond u (stops ListEmpty) (cond w (goes (inked s (column (top s)))) (stops PaperOut)) ≡ goes t → Shows s t
+        → cond u (stops ListEmpty) (cond w (goes (emittedState s (column (top s)))) (stops PaperOut)) ≡ goes t → Shows s t
     go true w f e = absurd (false≢true (ap going e))
-    go false true f e = subst (Shows s) (ap (goingTo s) e) (inked-shows s v (leb-true _ _ f))
+    go false true f e = subst (Shows s) (ap (goingTo s) e) (emittedState-shows s v (leb-true _ _ f))
     go false false f e = absurd (false≢true (ap going e))
 
 pub paper-out-exactly : PaperOutExactly
@@ -180,6 +180,6 @@ paper-out-exactly s h =
     (out (leb (s .written + length c) (length (s .output))) refl, λ g. rw (lt-leb (s .written + length c) (length (s .output)) (omega (arith, w))))
   where
     out : (u : Bool) → leb (s .written + length (column (top s))) (length (s .output)) ≡ u
-        → cond u (goes (inked s (column (top s)))) (stops PaperOut) ≡ stops PaperOut → length (s .output) < s .written + writeWidth
+        → cond u (goes (emittedState s (column (top s)))) (stops PaperOut) ≡ stops PaperOut → length (s .output) < s .written + writeWidth
     out true f e = absurd (false≢true (sym (ap going e)))
     out false f e = let g = leb-false (s .written + length (column (top s))) (length (s .output)) f in omega (arith, column-width (top s), g)

@@ -45,7 +45,7 @@ pub data Effect : Type 0 where
 -- a predicate answers with a state, or stops the run
 pub data Verdict : Type 0 where
   answers : Bool → State → Verdict
-  stalls : Ending → Verdict
+  stopsBy : Ending → Verdict
 
 -- ── parts of a state ────────────────────────────────────────────────────────────────────────────
 
@@ -116,12 +116,12 @@ inputted s =
     cond (ltb (s .taken) (length (s .inputs))) (pushed (withTaken s (s .taken + 1)) (getD (s .inputs) (s .taken) (pos 0))) (stops NoInput)
 
 -- the bytes b after what is written
-abbrev pub inked : State → List ℕ → State
-inked s b = withOutput s (paste (s .output) (s .written) b (length b)) (s .written + length b)
+abbrev pub emittedState : State → List ℕ → State
+emittedState s b = withOutput s (paste (s .output) (s .written) b (length b)) (s .written + length b)
 
 -- "paper out: the bytes of a print, `O` or `X` do not all fit"
 abbrev pub emitted : State → List ℕ → Effect
-emitted s b = cond (leb (s .written + length b) (length (s .output))) (goes (inked s b)) (stops PaperOut)
+emitted s b = cond (leb (s .written + length b) (length (s .output))) (goes (emittedState s b)) (stops PaperOut)
 
 -- Document 02, U6: "`O` shall write units, a point and two digits of cents, right-justified in 14 columns"
 unfoldable pub column : ℤ → List ℕ
@@ -171,7 +171,7 @@ counted s i m =
 
 -- a predicate that needs n values and answers t
 abbrev pub asked : ℕ → State → Bool → Verdict
-asked n s t = cond (ltb (s .height) n) (stalls ListEmpty) (answers t s)
+asked n s t = cond (ltb (s .height) n) (stopsBy ListEmpty) (answers t s)
 
 -- "`N` top negative, `0` top zero, `J` the two top values equal: these remove nothing." In the letter l.
 unfoldable pub ask : ℕ → Predicate → State → Verdict

@@ -17,7 +17,7 @@ use Rattle.language.specs.Letters.{isLetter, letterIndex}
 use Rattle.language.specs.Values.{isValue}
 use Rattle.language.specs.Tokens.{printByte}
 use Rattle.language.specs.Layout.{forward, codeStart}
-use Rattle.language.specs.Effects.{State, Effect, goes, stops, Verdict, answers, stalls, perform, ask, onCall}
+use Rattle.language.specs.Effects.{State, Effect, goes, stops, Verdict, answers, stopsBy, perform, ask, onCall}
 use Rattle.language.specs.Meaning.{Outcome, ended, stopped}
 
 -- ── decoding ────────────────────────────────────────────────────────────────────────────────────
@@ -162,7 +162,7 @@ onEffect (stops e) s r k = stopped e s r
 -- on with what a predicate answered; where it stops, the state and the steps left are those before it
 unfoldable pub onVerdict : Verdict → State → ℕ → (Bool → State → Outcome) → Outcome
 onVerdict (answers t s′) s r k = k t s′
-onVerdict (stalls e) s r k = stopped e s r
+onVerdict (stopsBy e) s r k = stopped e s r
 
 -- a letter that stands, as what a call enters
 abbrev pub present : Bool → Option (Unit {0})

@@ -6,7 +6,7 @@ use Rattle.language.specs.declared.Ending.{Ending}
 use Rattle.language.specs.declared.Ending.the-variants.{Spent}
 use Rattle.language.specs.Roles.{bars}
 use Rattle.language.specs.Syntax.{Expr, close, semi, colon, operate, test, call, inner}
-use Rattle.language.specs.Effects.{State, goes, stops, answers, stalls, perform, ask, onCall}
+use Rattle.language.specs.Effects.{State, goes, stops, answers, stopsBy, perform, ask, onCall}
 
 -- What an expression or a run comes to: its truth, or what stopped it; with the state and the steps that are left of the allowance then.
 pub data Outcome : Type 0 where
@@ -30,7 +30,7 @@ module _ (texts : ℕ → Option Expr) (permissions : ℕ → ℕ) (role : ℕ) 
     obey (operate o e) w s (suc r) = elim (perform o s) [ goes s′ ↦ obey e w s′ r | stops k ↦ stopped k s (suc r) ]
     obey (test p e) w s zero = stopped Spent s zero
     obey (test p e) w s (suc r) =
-        elim (ask l p s) [ answers true s′ ↦ obey e w s′ r | answers false s′ ↦ skip e w s′ r | stalls k ↦ stopped k s (suc r) ]
+        elim (ask l p s) [ answers true s′ ↦ obey e w s′ r | answers false s′ ↦ skip e w s′ r | stopsBy k ↦ stopped k s (suc r) ]
     obey (call a e) w s zero = stopped Spent s zero
     obey (call a e) w s (suc r) =
         onCall (texts a) (bars role (permissions a)) d (λ k. stopped k s (suc r))

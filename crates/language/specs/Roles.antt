@@ -1,4 +1,4 @@
--- Document 02, U7: the marks of letters, the roles of callers, and which letters a caller may not run.
+-- Document 02, U7: the marks of letters, called permissions here; the roles of callers; and which letters a caller may not run.
 use Prim.Native.Nat.{ℕ}
 use mathlib.Core.Bool.{Bool, _&&_, _||_}
 use mathlib.Core.List.{List}
@@ -21,7 +21,7 @@ cashierRole = 0
 abbrev pub stewardRole : ℕ
 stewardRole = 1
 
--- the mark of letter a, a as 0, of a list of marks
+-- the permission of letter a, a as 0, of a list of permissions
 abbrev pub permissionAt : List ℕ → ℕ → ℕ
 permissionAt k a = getD k a openPermission
 
@@ -33,6 +33,6 @@ isPermission k = eqb k openPermission || eqb k stewardPermission
 unfoldable pub isRole : ℕ → Bool
 isRole r = eqb r cashierRole || eqb r stewardRole
 
--- A letter with the mark k is not for a caller with the role r: "Some letters may be run only by a steward."
+-- A letter with the permission k is not for a caller with the role r: "Some letters may be run only by a steward."
 unfoldable pub bars : ℕ → ℕ → Bool
 bars r k = eqb r cashierRole && eqb k stewardPermission

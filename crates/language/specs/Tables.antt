@@ -30,7 +30,7 @@ decodeAt c u a q = decode (tableAt c u a) q
 abbrev pub standsAt : List ℕ → ℕ → Bool
 standsAt u a = not (eqb (getD u a 0) 0)
 
--- letter a, by its mark of the marks k, is not for a caller with the role r
+-- letter a, by its permission of the permissions k, is not for a caller with the role r
 abbrev pub barredAt : List ℕ → ℕ → ℕ → Bool
 barredAt k r a = bars r (permissionAt k a)
 

@@ -40,7 +40,7 @@ pub const WRITE_WIDTH: usize = 14;
 // Document 02, U7: the permission of a letter that anyone may run, "open (0) or steward (1)".
 pub const OPEN: u32 = 0;
 
-// The mark of a letter that only a steward may run.
+// The permission of a letter that only a steward may run.
 pub const STEWARDS: u32 = 1;
 
 // The role of a run's caller who may run open letters only, "cashier (0) or steward (1)".
@@ -49,7 +49,7 @@ pub const CASHIER: u32 = 0;
 // The role of a caller who may run every letter.
 pub const STEWARD: u32 = 1;
 
-// Whether a letter with this mark is not for a caller with this role.
+// Whether a letter with this permission is not for a caller with this role.
 pub fn bars(role: u32, mark: u32) -> bool
     ensures { λ r. ⌜ r ≡ bars role mark ⌝ }
 {

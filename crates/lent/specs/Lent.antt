@@ -14,6 +14,6 @@ pub record Room (cells : List ℤ) (base : ℕ) (table : List ℤ) : Type 0 wher
   pub all-cells : length cells ≡ storeCells
   pub all-table : length table ≡ maxCells
 
--- the entry of letter k becomes that of the table t with the mark m, whatever the variables
+-- the entry of letter k becomes that of the table t with the permission m, whatever the variables
 abbrev pub Puts : List ℤ → List ℕ → List ℕ → ℕ → Table → ℕ → List ℤ → List ℕ → List ℕ → Type 0
 Puts c u ms k t m c′ u′ ms′ = (v : List ℤ) → storeOf c′ u′ ms′ v ≡ withEntry (storeOf c u ms v) k (record { table = t; permission = m })

@@ -10,7 +10,7 @@ use Rattle.language.specs.Syntax.{operatorByte, accessByte, conditionByte}
 use Rattle.language.specs.Letters.{letterByte}
 use Rattle.language.specs.Between.{between}
 use Rattle.language.specs.Tokens.{Class, blank, quote, opening, closing, semicolon, point, dollar, tick, stray, operating, accessing, comparing, calling, class}
-use Rattle.lexer.specs.Lexing.{Inked, Stands, classRank, byteRank, kindRanked, kindOf}
+use Rattle.lexer.specs.Lexing.{NoSpace, Stands, classRank, byteRank, kindRanked, kindOf}
 use Rattle.language.specs.Bytes.{blankByte, digitByte, newlineByte, openByte, quoteByte}
 use Rattle.lexer.specs.declared.Kind.{Kind}
 use Rattle.lexer.specs.declared.Kind.the-variants as K
@@ -158,7 +158,7 @@ else-right : (a x : Bool) → T (either a x) → a ≡ false → T x
 else-right true x t e = absurd (subst (λ (b : Bool). T b) e t)
 else-right false x t e = t
 
-module _ (b : ℕ) (h : b < 256) (i : Inked b) where
+module _ (b : ℕ) (h : b < 256) (i : NoSpace b) where
   -- a byte that is not skipped is of such a class
   pub a-mark : T (isPermission (class b))
   unfolding class

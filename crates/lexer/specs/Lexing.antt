@@ -115,14 +115,14 @@ Skips t s from (S.To n) = SkipsTo t s from n
 Skips t s from (S.Refused r) = t ≡ faults r ∷ []
 
 -- the byte is no blank, newline or `"`
-pub record Inked (b : ℕ) : Type 0 where
+pub record NoSpace (b : ℕ) : Type 0 where
   pub no-blank : b ≡ blankByte → ⊥
   pub no-newline : b ≡ newlineByte → ⊥
   pub no-quote : b ≡ quoteByte → ⊥
 
 -- no blank, newline or comment begins at place i
 abbrev pub MarkAt : List ℕ → ℕ → Type 0
-MarkAt s i = i < length s → Inked (getD s i 0)
+MarkAt s i = i < length s → NoSpace (getD s i 0)
 
 -- where nothing is skipped, there is nothing to skip
 abbrev pub Stays : List ℕ → ℕ → Skipped → Type 0

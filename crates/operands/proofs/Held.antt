@@ -15,7 +15,7 @@ use Rattle.language.specs.Answers.{endingNumber}
 use Rattle.language.specs.Lookup.{lookup}
 use Rattle.language.specs.Effects.{State}
 use Rattle.language.specs.Machine.{pick}
-use Rattle.operands.specs.Loop.{Spot, spot, enters, back}
+use Rattle.operands.specs.Loop.{Configuration, configuration, enters, back}
 use Rattle.operands.specs.Held.{frameAt, framesOf, stopEndings, endingOf, turned}
 
 less-one : (r : ℕ) → suc r - 1 ≡ r
@@ -34,7 +34,7 @@ length-frames a zero = refl
 length-frames a (suc d) = ap suc (length-frames a d)
 
 -- the last of no open calls ends the run
-pub leave-none : (t : ℕ) (m : Spot) (a : List ℕ) (d : ℕ) → 1 ≤ t → t ≤ 2 → d ≡ 0 → turned t m ≡ back (framesOf a d) (eqb t 1) (m .state) (m .left)
+pub leave-none : (t : ℕ) (m : Configuration) (a : List ℕ) (d : ℕ) → 1 ≤ t → t ≤ 2 → d ≡ 0 → turned t m ≡ back (framesOf a d) (eqb t 1) (m .state) (m .left)
 unfolding framesOf
 leave-none zero m a d h k e = absurd (omega arith)
 leave-none (suc zero) m a d h k e = rw e
@@ -43,7 +43,7 @@ leave-none (suc (suc (suc t))) m a d h k e = absurd (omega arith)
 
 -- an open call is gone back to
 pub leave-some : (t : ℕ) (a : List ℕ) (d : ℕ) (s : State) (r : ℕ) → 1 ≤ t → t ≤ 2 → 0 < d
-    → enters (spot (getD a (3 * (d - 1)) 0) (getD a (3 * (d - 1) + t) 0) (framesOf a (d - 1)) s r) ≡ back (framesOf a d) (eqb t 1) s r
+    → enters (configuration (getD a (3 * (d - 1)) 0) (getD a (3 * (d - 1) + t) 0) (framesOf a (d - 1)) s r) ≡ back (framesOf a d) (eqb t 1) s r
 unfolding pick
 leave-some zero a d s r h k e = absurd (omega arith)
 leave-some (suc zero) a d s r h k e = rw (frames-pop a d)

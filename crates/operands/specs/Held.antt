@@ -14,9 +14,9 @@ use Rattle.language.specs.Effects.{State}
 use Rattle.language.specs.Meaning.{ended}
 use Rattle.language.specs.Machine.{Frame}
 use Rattle.operands.specs.declared.Machine.{Machine}
-use Rattle.operands.specs.Loop.{Spot, Turn, continues, enters, finishes, halt}
+use Rattle.operands.specs.Loop.{Configuration, Turn, continues, enters, finishes, halt}
 
--- the machine's numbers; the store's cells, used-cell counts and marks, the caller's role and the inputs, which no turn changes; and what a turn can
+-- the machine's numbers; the store's cells, used-cell counts and permissions, the caller's role and the inputs, which no turn changes; and what a turn can
 -- change
 pub record Held : Type 0 where
   pub machine : Machine
@@ -66,8 +66,8 @@ stateOf h =
     }
 
 -- where the loop stands
-abbrev pub spotOf : Held → Spot
-spotOf h =
+abbrev pub configurationOf : Held → Configuration
+configurationOf h =
     record {
       letter = h .machine .letter;
       cell = h .machine .at;
@@ -84,9 +84,9 @@ stopEndings = Spent ∷ ListEmpty ∷ ListFull ∷ Range ∷ ZeroDivisor ∷ NoI
 abbrev pub endingOf : ℕ → Ending
 endingOf n = lookup (map (λ e. (endingNumber e, e)) stopEndings) Finished n
 
--- what the machine's state k says of a turn that came to the spot m: 0, it goes on; 1 and 2, it has ended true, or false; 3, it enters a letter's code;
+-- what the machine's state k says of a turn that came to the configuration m: 0, it goes on; 1 and 2, it has ended true, or false; 3, it enters a letter's code;
 -- else it was stopped
-abbrev pub turned : ℕ → Spot → Turn
+abbrev pub turned : ℕ → Configuration → Turn
 turned k m =
     cond (eqb k 0) (continues m)
     (cond (eqb k 1) (finishes (ended true (m .state) (m .left)))
@@ -95,7 +95,7 @@ turned k m =
 
 -- what the turn came to after which the code holds this
 abbrev pub outcome : Held → Turn
-outcome h = turned (h .machine .state) (spotOf h)
+outcome h = turned (h .machine .state) (configurationOf h)
 
 -- ── what a function holds of it: the machine's numbers, and .. ──────────────────────────────────
 
@@ -107,7 +107,7 @@ onMachine m h = held m (h .cells) (h .used) (h .permissions) (h .role) (h .input
 abbrev pub framed : Machine → List ℕ → Held → Held
 framed m f h = held m (h .cells) (h .used) (h .permissions) (h .role) (h .inputs) f (h .counts) (h .variables) (h .stack) (h .output)
 
--- the store's used-cell counts and marks, the caller's role and the open calls
+-- the store's used-cell counts and permissions, the caller's role and the open calls
 abbrev pub called : Machine → List ℕ → List ℕ → ℕ → List ℕ → Held → Held
 called m u k r f h = held m (h .cells) u k r (h .inputs) f (h .counts) (h .variables) (h .stack) (h .output)
 

@@ -9,7 +9,7 @@ use Rattle.language.specs.Effects.{State, Effect, pushed}
 use Rattle.language.specs.Machine.{Decoded, code, operateAt, Kind, mark, decode}
 use Rattle.language.specs.Tables.{tableFrom, standsAt, barredAt}
 use Rattle.operands.specs.Loop.{Turn, back, effectTurn, decodedTurn}
-use Rattle.operands.specs.Held.{Held, stateOf, spotOf, outcome}
+use Rattle.operands.specs.Held.{Held, stateOf, configurationOf, outcome}
 
 -- A function makes the turn `next`: whatever else is held, what it leaves comes to that turn from what it found.
 abbrev pub Turns : (Held → Turn) → (Held → Held) → (Held → Held) → Type 0
@@ -17,7 +17,7 @@ Turns next before after = (h : Held) → outcome (after h) ≡ next (before h)
 
 -- a turn where the due cell decodes so
 abbrev pub decodedAs : Decoded → Held → Turn
-decodedAs d h = decodedTurn (standsAt (h .used)) (barredAt (h .permissions) (h .role)) d (spotOf h)
+decodedAs d h = decodedTurn (standsAt (h .used)) (barredAt (h .permissions) (h .role)) d (configurationOf h)
 
 -- a turn where the table's due cell holds a mark of this kind; the table's cells start at `base`, and `end` is its used-cell count
 abbrev pub markAt : List ℤ → ℕ → ℕ → Kind → Held → Turn
@@ -33,7 +33,7 @@ operatorTurn o h = decodedAs (code (operateAt (operator o) (h .machine .at + 1))
 
 -- a step to cell q with this effect
 abbrev pub effected : (State → Effect) → ℕ → Held → Turn
-effected e q h = effectTurn (e (stateOf h)) q (spotOf h)
+effected e q h = effectTurn (e (stateOf h)) q (configurationOf h)
 
 -- a step to cell q with a push of v
 abbrev pub pushing : ℤ → ℕ → Held → Turn
@@ -41,4 +41,4 @@ pushing v q h = effected (λ s. pushed s v) q h
 
 -- the code of the letter ends with this truth
 abbrev pub returned : Bool → Held → Turn
-returned t h = back (spotOf h .frames) t (stateOf h) (h .machine .left)
+returned t h = back (configurationOf h .frames) t (stateOf h) (h .machine .left)

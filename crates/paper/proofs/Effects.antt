@@ -11,7 +11,7 @@ use Rattle.language.specs.declared.Ending.the-variants.{PaperOut}
 use Rattle.language.specs.Syntax.{Operation}
 use Rattle.language.specs.Effects.{State, Effect, goes, stops, withOutput, emitted, perform}
 use Rattle.language.specs.Machine.{Decoded, code, operateAt}
-use Rattle.operands.specs.Loop.{Spot, effectTurn, decodedTurn}
+use Rattle.operands.specs.Loop.{Configuration, effectTurn, decodedTurn}
 
 -- ── one byte of output ──────────────────────────────────────────────────────────────────────────
 
@@ -37,6 +37,6 @@ module _ (s : State) (b : List ℕ) (n : ℕ) (size : length b ≡ n) where
 -- ── a turn at an operation ──────────────────────────────────────────────────────────────────────
 
 -- where the due cell decodes to an operation with this effect, and a step is left
-pub operate-turn : (stands barred : ℕ → Bool) (x : Decoded) (o : Operation) (q : ℕ) (m : Spot) (e : Effect) → x ≡ code (operateAt o q) → (m .left ≡ 0 → ⊥)
+pub operate-turn : (stands barred : ℕ → Bool) (x : Decoded) (o : Operation) (q : ℕ) (m : Configuration) (e : Effect) → x ≡ code (operateAt o q) → (m .left ≡ 0 → ⊥)
     → perform o (m .state) ≡ e → effectTurn e q m ≡ decodedTurn stands barred x m
 operate-turn stands barred x o q m e d l p = rw (d, ne-eqb (m .left) 0 l, p)

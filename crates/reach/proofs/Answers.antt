@@ -21,7 +21,7 @@ use Rattle.book.proofs.Refusals.{none-fits}
 use Rattle.marks.specs.Formats.{ticked}
 use Rattle.reach.specs.Reach.{calledBy, calls, spreadBy, mostCalls, eachOf, readable, reachedBy, missingOf, Report, reports, reportOf, reach}
 use Rattle.reach.specs.Rounds.{tables, inArray, rows}
-use Rattle.reach.proofs.Calls.{array-calls, rounds-same, start-marks}
+use Rattle.reach.proofs.Calls.{array-calls, rounds-same, start-flags}
 
 module _ (st : Store) (l : ℕ) (r m : List ℕ) where
   pub store-refused : soundStore st ≡ false → reach st l r m ≡ reports (refusalNumber BadStore) r m
@@ -94,5 +94,5 @@ module _ (c : List ℤ) (u k : List ℕ) (v : List ℤ) where
       let st = storeOf c u k v in
       f
       ∙ ap (λ x. spreadBy (inArray x) mostCalls (set (replicate maxLetters 0) a 1)) (e ∙ rows-tables maxLetters)
-      ∙ ap (λ x. spreadBy (inArray (rows st maxLetters)) mostCalls x) (start-marks a lt)
+      ∙ ap (λ x. spreadBy (inArray (rows st maxLetters)) mostCalls x) (start-flags a lt)
       ∙ rounds-same (inArray (rows st maxLetters)) (calls st) mostCalls _ (array-calls st h)

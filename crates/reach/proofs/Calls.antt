@@ -16,7 +16,7 @@ use Rattle.book.specs.Store.{Store, entryAt}
 use Rattle.marks.specs.Marks.{marks, callsIn}
 use Rattle.marks.specs.Formats.{callPlaces, ticked}
 use Rattle.marks.proofs.Marks.{Letters, marks-letters}
-use Rattle.reach.specs.Reach.{calledBy, member, calls, marksBy, isMarked, anyOf, spread, spreadBy}
+use Rattle.reach.specs.Reach.{calledBy, member, calls, flagsBy, isFlagged, anyOf, spread, spreadBy}
 use Rattle.reach.specs.Rounds.{rows, inArray, Marks}
 use Rattle.reach.proofs.Marks.{mark, mark-back, length-marks, getD-marks, marks-same, marks-of}
 use Rattle.reach.proofs.Rounds.{count-bounds, sound-at}
@@ -120,7 +120,7 @@ any-same (suc n) p q h = λ i. any-same n p q (λ a l. h a (omega arith)) i || h
 spread-same : (f g : ℕ → ℕ → Bool) (m : List ℕ) → Alike f g → spread f m ≡ spread g m
 unfolding spread
 spread-same f g m h =
-    marks-same maxLetters _ _ (λ b j. ap (λ u. isMarked m b || u) (any-same maxLetters _ _ (λ a i. ap (λ u. isMarked m a && u) (h a b i j))))
+    marks-same maxLetters _ _ (λ b j. ap (λ u. isFlagged m b || u) (any-same maxLetters _ _ (λ a i. ap (λ u. isFlagged m a && u) (h a b i j))))
 
 pub rounds-same : (f g : ℕ → ℕ → Bool) (n : ℕ) (m : List ℕ) → Alike f g → spreadBy f n m ≡ spreadBy g n m
 unfolding spreadBy
@@ -128,8 +128,8 @@ rounds-same f g zero m h = refl
 rounds-same f g (suc n) m h = spread-same f g (spreadBy f n m) h ∙ ap (spread g) (rounds-same f g n m h)
 
 -- one letter's mark alone
-pub start-marks : (a : ℕ) → a < maxLetters → set (replicate {A = ℕ} maxLetters 0) a 1 ≡ marksBy maxLetters (λ b. eqb a b)
-start-marks a h =
+pub start-flags : (a : ℕ) → a < maxLetters → set (replicate {A = ℕ} maxLetters 0) a 1 ≡ flagsBy maxLetters (λ b. eqb a b)
+start-flags a h =
     ext-getD 0 _ _ (length-set (replicate {A = ℕ} maxLetters 0) a 1 ∙ length-replicate {A = ℕ} maxLetters 0 ∙ sym (length-marks maxLetters (λ b. eqb a b)))
     (λ b k. let j : b < maxLetters = subst (λ n. b < n) (length-set (replicate {A = ℕ} maxLetters 0) a 1 ∙ length-replicate {A = ℕ} maxLetters 0) k in
     go b (eqb a b) refl ∙ sym (getD-marks maxLetters (λ b. eqb a b) b j))
@@ -142,4 +142,4 @@ start-marks a h =
         getD-set-other (replicate {A = ℕ} maxLetters 0) a b 1 0 (λ e. eqb-false a b q (sym e)) ∙ replicate-at {A = ℕ} 0 maxLetters b ∙ (rw q)
 
 pub start-proper : (a : ℕ) → a < maxLetters → Marks (set (replicate maxLetters 0) a 1)
-start-proper a h = subst Marks (sym (start-marks a h)) (marks-of (λ b. eqb a b))
+start-proper a h = subst Marks (sym (start-flags a h)) (marks-of (λ b. eqb a b))

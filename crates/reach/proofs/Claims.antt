@@ -36,9 +36,9 @@ use Rattle.book.specs.Demand3.{Always}
 use Rattle.book.proofs.Refusals.{refusal-refuses, refusal-not-zero, free-letter, free-run}
 use Rattle.book.proofs.History.{Agree, agree-sound, agree-fresh, both-call, agree-after}
 use Rattle.book.proofs.Demand3.{history, always}
-use Rattle.reach.specs.Reach.{member, calls, Reaches, isMarked, eachOf, readable, reachedBy, missingOf, Report, reports, reach}
+use Rattle.reach.specs.Reach.{member, calls, Reaches, isFlagged, eachOf, readable, reachedBy, missingOf, Report, reports, reach}
 use Rattle.reach.specs.Claims.{ReachedExactly, MissingExactly, RefusalKeeps, Warns, EndsNoText, NeverDamaged}
-use Rattle.reach.proofs.Marks.{marked-by, marked-letter}
+use Rattle.reach.proofs.Marks.{flagged-by, flagged-letter}
 use Rattle.reach.proofs.Rounds.{each-all}
 use Rattle.reach.proofs.Answers.{store-refused, letter-refused, standing-refused, damaged-refused, given, sound-counts}
 use Rattle.reach.proofs.Closure.{reaches-itself, reaches-call, reached-sound, reached-complete, reached-letter}
@@ -99,21 +99,21 @@ reached-exactly st l r m b z =
     let e : reach st l r m .reached ≡ reachedBy st (letterIndex l) = ap (λ (x : Report). x .reached) (g .report) in
     let s = sound-counts st (g .sound) in
     let k = letter-lt l (g .letter) in (
-      λ h. reached-sound st (letterIndex l) s k b (ap (λ x. isMarked x b) (sym e) ∙ h),
-      λ h. ap (λ x. isMarked x b) e ∙ reached-complete st (letterIndex l) s k b h,
+      λ h. reached-sound st (letterIndex l) s k b (ap (λ x. isFlagged x b) (sym e) ∙ h),
+      λ h. ap (λ x. isFlagged x b) e ∙ reached-complete st (letterIndex l) s k b h,
     )
 
 -- the marks of what is marked and has no text
-missing-of : (u m : List ℕ) (b : ℕ) → (isMarked (missingOf u m) b ≡ true → (isMarked m b ≡ true) × (standsAt u b ≡ false))
+missing-of : (u m : List ℕ) (b : ℕ) → (isFlagged (missingOf u m) b ≡ true → (isFlagged m b ≡ true) × (standsAt u b ≡ false))
 unfolding missingOf
 missing-of u m b e =
-    let p : ℕ → Bool = λ x. isMarked m x && not (standsAt u x) in
-    let k : (isMarked m b && not (standsAt u b)) ≡ true = sym (marked-by p b (marked-letter p b e)) ∙ e in
-    (first-true (isMarked m b) (not (standsAt u b)) k, not-true (standsAt u b) (second-true (isMarked m b) (not (standsAt u b)) k))
+    let p : ℕ → Bool = λ x. isFlagged m x && not (standsAt u x) in
+    let k : (isFlagged m b && not (standsAt u b)) ≡ true = sym (flagged-by p b (flagged-letter p b e)) ∙ e in
+    (first-true (isFlagged m b) (not (standsAt u b)) k, not-true (standsAt u b) (second-true (isFlagged m b) (not (standsAt u b)) k))
 
-of-missing : (u m : List ℕ) (b : ℕ) → b < maxLetters → isMarked m b ≡ true → standsAt u b ≡ false → isMarked (missingOf u m) b ≡ true
+of-missing : (u m : List ℕ) (b : ℕ) → b < maxLetters → isFlagged m b ≡ true → standsAt u b ≡ false → isFlagged (missingOf u m) b ≡ true
 unfolding missingOf
-of-missing u m b h e k = marked-by (λ x. isMarked m x && not (standsAt u x)) b h ∙ both-true (isMarked m b) (not (standsAt u b)) e (ap not k)
+of-missing u m b h e k = flagged-by (λ x. isFlagged m x && not (standsAt u x)) b h ∙ both-true (isFlagged m b) (not (standsAt u b)) e (ap not k)
 
 pub missing-exactly : MissingExactly
 missing-exactly st l r m b z =
@@ -122,9 +122,9 @@ missing-exactly st l r m b z =
     let e : reach st l r m .missing ≡ missingOf (st .used) (reachedBy st a) = ap (λ (x : Report). x .missing) (g .report) in
     let s = sound-counts st (g .sound) in
     let k = letter-lt l (g .letter) in (
-      λ h. let i = missing-of (st .used) (reachedBy st a) b (ap (λ x. isMarked x b) (sym e) ∙ h) in (reached-sound st a s k b (i .0), i .1),
+      λ h. let i = missing-of (st .used) (reachedBy st a) b (ap (λ x. isFlagged x b) (sym e) ∙ h) in (reached-sound st a s k b (i .0), i .1),
       λ h. let i = reached-complete st a s k b (h .0) in
-          ap (λ x. isMarked x b) e ∙ of-missing (st .used) (reachedBy st a) b (reached-letter st a b i) i (h .1),
+          ap (λ x. isFlagged x b) e ∙ of-missing (st .used) (reachedBy st a) b (reached-letter st a b i) i (h .1),
     )
 
 -- ── sequence-made stores ────────────────────────────────────────────────────────────────────────

@@ -12,9 +12,9 @@ use Rattle.language.specs.Tables.{soundUsed}
 use Rattle.language.proofs.Tests.{both-true, first-true, second-true}
 use Rattle.book.specs.Store.{Store}
 use Rattle.marks.proofs.Marks.{Letters}
-use Rattle.reach.specs.Reach.{calledBy, member, calls, Chain, Reaches, marksBy, isMarked, anyOf, spread, spreadBy, mostCalls, reachedBy}
+use Rattle.reach.specs.Reach.{calledBy, member, calls, Chain, Reaches, flagsBy, isFlagged, anyOf, spread, spreadBy, mostCalls, reachedBy}
 use Rattle.reach.specs.Rounds.{Marks}
-use Rattle.reach.proofs.Marks.{marked-by, marked-letter, marks-of}
+use Rattle.reach.proofs.Marks.{flagged-by, flagged-letter, marks-of}
 use Rattle.reach.proofs.Rounds.{or-true, rounds-marks}
 use Rattle.reach.proofs.Calls.{called-letters}
 
@@ -65,40 +65,40 @@ member-letter (x ∷ l) b h e =
 module _ (st : Store) where
   -- the marks after n rounds
   abbrev after : ℕ → ℕ → List ℕ
-  after a n = spreadBy (calls st) n (marksBy maxLetters (λ b. eqb a b))
+  after a n = spreadBy (calls st) n (flagsBy maxLetters (λ b. eqb a b))
 
   -- a letter that a round marks was marked, or is called by one that was
   abbrev test : List ℕ → ℕ → Bool
-  test m b = isMarked m b || anyOf maxLetters (λ k. isMarked m k && calls st k b)
+  test m b = isFlagged m b || anyOf maxLetters (λ k. isFlagged m k && calls st k b)
 
-  marked-reaches : (a n b : ℕ) → isMarked (after a n) b ≡ true → Reaches st a b
+  marked-reaches : (a n b : ℕ) → isFlagged (after a n) b ≡ true → Reaches st a b
   unfolding spreadBy spread
   marked-reaches a zero b e =
-      let k : eqb a b ≡ true = sym (marked-by (λ x. eqb a x) b (marked-letter (λ x. eqb a x) b e)) ∙ e in
+      let k : eqb a b ≡ true = sym (flagged-by (λ x. eqb a x) b (flagged-letter (λ x. eqb a x) b e)) ∙ e in
       subst (Reaches st a) (eqb-true a b k) (reaches-itself st a)
   marked-reaches a (suc n) b e =
-      let k : test (after a n) b ≡ true = sym (marked-by (test (after a n)) b (marked-letter (test (after a n)) b e)) ∙ e in
-      either-true (isMarked (after a n) b) (anyOf maxLetters (λ k. isMarked (after a n) k && calls st k b)) (Reaches st a b) k (λ h. marked-reaches a n b h)
+      let k : test (after a n) b ≡ true = sym (flagged-by (test (after a n)) b (flagged-letter (test (after a n)) b e)) ∙ e in
+      either-true (isFlagged (after a n) b) (anyOf maxLetters (λ k. isFlagged (after a n) k && calls st k b)) (Reaches st a b) k (λ h. marked-reaches a n b h)
       (λ h. any-some maxLetters _ (Reaches st a b) h (λ j i. reaches-call st a j b
-      (marked-reaches a n j (first-true (isMarked (after a n) j) (calls st j b) i)) (second-true (isMarked (after a n) j) (calls st j b) i)))
+      (marked-reaches a n j (first-true (isFlagged (after a n) j) (calls st j b) i)) (second-true (isFlagged (after a n) j) (calls st j b) i)))
 
   -- ── what is reached is marked, where a round changes nothing ──────────────────────────────────
 
   module _ (sound : soundUsed (st .used) ≡ true) (m : List ℕ) (still : spread (calls st) m ≡ m) where
-    still-test : (b : ℕ) → b < maxLetters → isMarked m b ≡ test m b
+    still-test : (b : ℕ) → b < maxLetters → isFlagged m b ≡ test m b
     unfolding spread
-    still-test b h = ap (λ x. isMarked x b) (sym still) ∙ marked-by (test m) b h
+    still-test b h = ap (λ x. isFlagged x b) (sym still) ∙ flagged-by (test m) b h
 
-    still-letter : (b : ℕ) → isMarked m b ≡ true → b < maxLetters
+    still-letter : (b : ℕ) → isFlagged m b ≡ true → b < maxLetters
     unfolding spread
-    still-letter b e = marked-letter (test m) b (ap (λ x. isMarked x b) still ∙ e)
+    still-letter b e = flagged-letter (test m) b (ap (λ x. isFlagged x b) still ∙ e)
 
-    chain-marked : (l : List ℕ) (a b : ℕ) → isMarked m a ≡ true → Chain st a l b → isMarked m b ≡ true
-    chain-marked [] a b e h = subst (λ x. isMarked m x ≡ true) h e
+    chain-marked : (l : List ℕ) (a b : ℕ) → isFlagged m a ≡ true → Chain st a l b → isFlagged m b ≡ true
+    chain-marked [] a b e h = subst (λ x. isFlagged m x ≡ true) h e
     chain-marked (x ∷ l) a b e h =
         let k : x < maxLetters = member-letter (calledBy st a) x (called-letters st a sound) (h .0) in
-        let i = any-of maxLetters a (λ k. isMarked m k && calls st k x) (still-letter a e) (both-true (isMarked m a) (calls st a x) e (h .0)) in
-        chain-marked l x b (still-test x k ∙ ap (λ u. isMarked m x || u) i ∙ or-true (isMarked m x)) (h .1)
+        let i = any-of maxLetters a (λ k. isFlagged m k && calls st k x) (still-letter a e) (both-true (isFlagged m a) (calls st a x) e (h .0)) in
+        chain-marked l x b (still-test x k ∙ ap (λ u. isFlagged m x || u) i ∙ or-true (isFlagged m x)) (h .1)
 
 -- ── after 25 rounds nothing changes ─────────────────────────────────────────────────────────────
 
@@ -107,26 +107,26 @@ abbrev total : List ℕ → ℕ
 total [] = 0
 total (x ∷ l) = x + total l
 
-total-most : (n : ℕ) (p : ℕ → Bool) → total (marksBy n p) ≤ n
+total-most : (n : ℕ) (p : ℕ → Bool) → total (flagsBy n p) ≤ n
 total-most zero p = omega arith
 total-most (suc n) p = go (p zero) (total-most n (λ b. p (suc b)))
   where
-    go : (u : Bool) → total (marksBy n (λ b. p (suc b))) ≤ n → cond u 1 0 + total (marksBy n (λ b. p (suc b))) ≤ suc n
+    go : (u : Bool) → total (flagsBy n (λ b. p (suc b))) ≤ n → cond u 1 0 + total (flagsBy n (λ b. p (suc b))) ≤ suc n
     go true h = omega (arith, h)
     go false h = omega (arith, h)
 
-total-some : (n a : ℕ) (p : ℕ → Bool) → a < n → p a ≡ true → 1 ≤ total (marksBy n p)
+total-some : (n a : ℕ) (p : ℕ → Bool) → a < n → p a ≡ true → 1 ≤ total (flagsBy n p)
 total-some zero a p h e = absurd (omega arith)
 total-some (suc n) zero p h e = rw e (omega arith)
 total-some (suc n) (suc a) p h e = let k = total-some n a (λ b. p (suc b)) (omega arith) e in omega (arith, k)
 
 -- marks that include others are the same, or are more
 data Grown (n : ℕ) (p q : ℕ → Bool) : Type 0 where
-  alike : marksBy n p ≡ marksBy n q → Grown n p q
-  more : total (marksBy n p) < total (marksBy n q) → Grown n p q
+  alike : flagsBy n p ≡ flagsBy n q → Grown n p q
+  more : total (flagsBy n p) < total (flagsBy n q) → Grown n p q
 
-total-le : (n : ℕ) (p q : ℕ → Bool) → Grown n p q → total (marksBy n p) ≤ total (marksBy n q)
-total-le n p q (alike e) = subst (λ x. total (marksBy n p) ≤ total x) e (omega arith)
+total-le : (n : ℕ) (p q : ℕ → Bool) → Grown n p q → total (flagsBy n p) ≤ total (flagsBy n q)
+total-le n p q (alike e) = subst (λ x. total (flagsBy n p) ≤ total x) e (omega arith)
 total-le n p q (more h) = omega (arith, h)
 
 grown : (n : ℕ) (p q : ℕ → Bool) → ((b : ℕ) → p b ≡ true → q b ≡ true) → Grown n p q
@@ -148,17 +148,17 @@ grown (suc n) p q h = go (p zero) (q zero) refl refl (grown n (λ b. p (suc b)) 
 -- a round changes nothing, or marks another letter
 round-grown : (f : ℕ → ℕ → Bool) (m : List ℕ) → Marks m → (spread f m ≡ m) ⊎ (total m < total (spread f m))
 unfolding spread
-round-grown f m h = go (grown maxLetters (isMarked m) q (λ b e. left b e))
+round-grown f m h = go (grown maxLetters (isFlagged m) q (λ b e. left b e))
   where
     q : ℕ → Bool
-    q b = isMarked m b || anyOf maxLetters (λ a. isMarked m a && f a b)
+    q b = isFlagged m b || anyOf maxLetters (λ a. isFlagged m a && f a b)
 
-    left : (b : ℕ) → isMarked m b ≡ true → q b ≡ true
-    left b e = ap (λ u. u || anyOf maxLetters (λ a. isMarked m a && f a b)) e
+    left : (b : ℕ) → isFlagged m b ≡ true → q b ≡ true
+    left b e = ap (λ u. u || anyOf maxLetters (λ a. isFlagged m a && f a b)) e
 
-    go : Grown maxLetters (isMarked m) q → (marksBy maxLetters q ≡ m) ⊎ (total m < total (marksBy maxLetters q))
+    go : Grown maxLetters (isFlagged m) q → (flagsBy maxLetters q ≡ m) ⊎ (total m < total (flagsBy maxLetters q))
     go (alike z) = inl (sym z ∙ sym h)
-    go (more k) = inr (subst (λ x. total x < total (marksBy maxLetters q)) (sym h) k)
+    go (more k) = inr (subst (λ x. total x < total (flagsBy maxLetters q)) (sym h) k)
 
 module _ (f : ℕ → ℕ → Bool) (start : List ℕ) (proper : Marks start) (some : 1 ≤ total start) where
   rounds-total : (n : ℕ) → (spread f (spreadBy f n start) ≡ spreadBy f n start) ⊎ (suc n ≤ total (spreadBy f n start))
@@ -188,33 +188,33 @@ module _ (f : ℕ → ℕ → Bool) (start : List ℕ) (proper : Marks start) (s
       go (inr k) (inr j) = absurd (let most = most-marked in omega (arith, k, j, most))
         where
           most-marked : total (spread f (spreadBy f mostCalls start)) ≤ maxLetters
-          most-marked = unfold spread in total-most maxLetters (λ b. isMarked (spreadBy f mostCalls start) b || anyOf maxLetters (λ a. isMarked (spreadBy f mostCalls start) a && f a b))
+          most-marked = unfold spread in total-most maxLetters (λ b. isFlagged (spreadBy f mostCalls start) b || anyOf maxLetters (λ a. isFlagged (spreadBy f mostCalls start) a && f a b))
 
 -- the letter's own mark stays
-mark-stays : (st : Store) (a : ℕ) → a < maxLetters → (n : ℕ) → isMarked (after st a n) a ≡ true
+mark-stays : (st : Store) (a : ℕ) → a < maxLetters → (n : ℕ) → isFlagged (after st a n) a ≡ true
 unfolding spreadBy spread
-mark-stays st a h zero = marked-by (λ b. eqb a b) a h ∙ eq-eqb a a refl
+mark-stays st a h zero = flagged-by (λ b. eqb a b) a h ∙ eq-eqb a a refl
 mark-stays st a h (suc n) =
-    marked-by (test st (after st a n)) a h
-    ∙ ap (λ u. u || anyOf maxLetters (λ k. isMarked (after st a n) k && calls st k a)) (mark-stays st a h n)
+    flagged-by (test st (after st a n)) a h
+    ∙ ap (λ u. u || anyOf maxLetters (λ k. isFlagged (after st a n) k && calls st k a)) (mark-stays st a h n)
 
 -- ── both directions ─────────────────────────────────────────────────────────────────────────────
 
 module _ (st : Store) (a : ℕ) (sound : soundUsed (st .used) ≡ true) (letter : a < maxLetters) where
-  pub reached-sound : (b : ℕ) → isMarked (reachedBy st a) b ≡ true → Reaches st a b
+  pub reached-sound : (b : ℕ) → isFlagged (reachedBy st a) b ≡ true → Reaches st a b
   unfolding reachedBy
   reached-sound b e = marked-reaches st a mostCalls b e
 
-  pub reached-complete : (b : ℕ) → Reaches st a b → isMarked (reachedBy st a) b ≡ true
+  pub reached-complete : (b : ℕ) → Reaches st a b → isFlagged (reachedBy st a) b ≡ true
   unfolding reachedBy
   reached-complete b r =
-      let start = marksBy maxLetters (λ b. eqb a b) in
+      let start = flagsBy maxLetters (λ b. eqb a b) in
       let one : eqb a a ≡ true = eq-eqb a a refl in
       let still = rounds-over (calls st) start (marks-of (λ b. eqb a b)) (total-some maxLetters a (λ b. eqb a b) letter one) in
       chain-marked st sound (spreadBy (calls st) mostCalls start) still (r .via) a b
       (mark-stays st a letter mostCalls) (r .chain)
 
 -- what is reached is a letter
-pub reached-letter : (st : Store) (a b : ℕ) → isMarked (reachedBy st a) b ≡ true → b < maxLetters
+pub reached-letter : (st : Store) (a b : ℕ) → isFlagged (reachedBy st a) b ≡ true → b < maxLetters
 unfolding reachedBy spreadBy spread
-reached-letter st a b e = marked-letter (test st (after st a (mostCalls - 1))) b e
+reached-letter st a b e = flagged-letter (test st (after st a (mostCalls - 1))) b e

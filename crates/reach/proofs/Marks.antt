@@ -10,7 +10,7 @@ use lib.Seq.{ext-getD, getD-set-same, getD-set-other}
 use lib.Dec.{eqb, ltb}
 use borrow.Author.Tests.{eqb-true, eqb-false, ltb-true, ltb-false}
 use Rattle.language.specs.Limits.{maxLetters}
-use Rattle.reach.specs.Reach.{marksBy, isMarked}
+use Rattle.reach.specs.Reach.{flagsBy, isFlagged}
 use Rattle.reach.specs.Rounds.{Marks}
 
 -- a test as a mark
@@ -22,54 +22,54 @@ pub mark-back : (u : Bool) → eqb (mark u) 1 ≡ u
 mark-back true = refl
 mark-back false = refl
 
-pub length-marks : (n : ℕ) (p : ℕ → Bool) → length (marksBy n p) ≡ n
+pub length-marks : (n : ℕ) (p : ℕ → Bool) → length (flagsBy n p) ≡ n
 length-marks zero p = refl
 length-marks (suc n) p = ap suc (length-marks n (λ b. p (suc b)))
 
-pub getD-marks : (n : ℕ) (p : ℕ → Bool) (b : ℕ) → b < n → getD (marksBy n p) b 0 ≡ mark (p b)
+pub getD-marks : (n : ℕ) (p : ℕ → Bool) (b : ℕ) → b < n → getD (flagsBy n p) b 0 ≡ mark (p b)
 getD-marks zero p b h = absurd (omega arith)
 getD-marks (suc n) p zero h = refl
 getD-marks (suc n) p (suc b) h = getD-marks n (λ b. p (suc b)) b (le-of-suc-le-suc h)
 
-past-marks : (n : ℕ) (p : ℕ → Bool) (b : ℕ) → n ≤ b → getD (marksBy n p) b 0 ≡ 0
+past-marks : (n : ℕ) (p : ℕ → Bool) (b : ℕ) → n ≤ b → getD (flagsBy n p) b 0 ≡ 0
 past-marks zero p b h = refl
 past-marks (suc n) p zero h = absurd (omega arith)
 past-marks (suc n) p (suc b) h = past-marks n (λ b. p (suc b)) b (le-of-suc-le-suc h)
 
 -- a letter is marked where the test holds of it
-pub marked-by : (p : ℕ → Bool) (b : ℕ) → b < maxLetters → isMarked (marksBy maxLetters p) b ≡ p b
-marked-by p b h = ap (λ x. eqb x 1) (getD-marks maxLetters p b h) ∙ mark-back (p b)
+pub flagged-by : (p : ℕ → Bool) (b : ℕ) → b < maxLetters → isFlagged (flagsBy maxLetters p) b ≡ p b
+flagged-by p b h = ap (λ x. eqb x 1) (getD-marks maxLetters p b h) ∙ mark-back (p b)
 
 -- nothing else is
-pub marked-letter : (p : ℕ → Bool) (b : ℕ) → isMarked (marksBy maxLetters p) b ≡ true → b < maxLetters
-marked-letter p b e = go (ltb b maxLetters) refl
+pub flagged-letter : (p : ℕ → Bool) (b : ℕ) → isFlagged (flagsBy maxLetters p) b ≡ true → b < maxLetters
+flagged-letter p b e = go (ltb b maxLetters) refl
   where
     go : (u : Bool) → ltb b maxLetters ≡ u → b < maxLetters
     go true k = ltb-true b maxLetters k
     go false k =
         absurd (false≢true (sym (ap (λ x. eqb x 1) (past-marks maxLetters p b (ltb-false b maxLetters k))) ∙ e))
 
-pub marks-same : (n : ℕ) (p q : ℕ → Bool) → ((b : ℕ) → b < n → p b ≡ q b) → marksBy n p ≡ marksBy n q
+pub marks-same : (n : ℕ) (p q : ℕ → Bool) → ((b : ℕ) → b < n → p b ≡ q b) → flagsBy n p ≡ flagsBy n q
 marks-same n p q h =
-    ext-getD 0 (marksBy n p) (marksBy n q) (length-marks n p ∙ sym (length-marks n q))
+    ext-getD 0 (flagsBy n p) (flagsBy n q) (length-marks n p ∙ sym (length-marks n q))
     (λ b k. let l : b < n = subst (λ m. b < m) (length-marks n p) k in getD-marks n p b l ∙ ap mark (h b l) ∙ sym (getD-marks n q b l))
 
 -- marks are those of what they mark
-pub marks-of : (p : ℕ → Bool) → Marks (marksBy maxLetters p)
-marks-of p = marks-same maxLetters p (isMarked (marksBy maxLetters p)) (λ b h. sym (marked-by p b h))
+pub marks-of : (p : ℕ → Bool) → Marks (flagsBy maxLetters p)
+marks-of p = marks-same maxLetters p (isFlagged (flagsBy maxLetters p)) (λ b h. sym (flagged-by p b h))
 
 -- ── marks that a loop writes one by one ─────────────────────────────────────────────────────────
 
 -- the first i marks are those of a test
-pub record Marking (p : ℕ → Bool) (m : List ℕ) (i : ℕ) : Type 0 where
+pub record Flagging (p : ℕ → Bool) (m : List ℕ) (i : ℕ) : Type 0 where
   pub size : length m ≡ maxLetters
   pub few : i ≤ maxLetters
   pub done : (b : ℕ) → b < i → getD m b 0 ≡ mark (p b)
 
-pub marking-none : (p : ℕ → Bool) (m : List ℕ) → length m ≡ maxLetters → Marking p m 0
+pub marking-none : (p : ℕ → Bool) (m : List ℕ) → length m ≡ maxLetters → Flagging p m 0
 marking-none p m e = record { size = e; few = omega arith; done = λ b h. absurd (omega arith) }
 
-pub marking-more : (p : ℕ → Bool) (m : List ℕ) (i v : ℕ) → Marking p m i → i < maxLetters → v ≡ mark (p i) → Marking p (set m i v) (i + 1)
+pub marking-more : (p : ℕ → Bool) (m : List ℕ) (i v : ℕ) → Flagging p m i → i < maxLetters → v ≡ mark (p i) → Flagging p (set m i v) (i + 1)
 marking-more p m i v k h e =
     record {
       size = length-set m i v ∙ k .size;
@@ -85,9 +85,9 @@ marking-more p m i v k h e =
         let ne = eqb-false b i q in
         getD-set-other m i b v 0 ne ∙ k .done b (omega (arith, ne))
 
-pub marking-done : (p : ℕ → Bool) (m : List ℕ) (i : ℕ) → Marking p m i → maxLetters ≤ i → m ≡ marksBy maxLetters p
+pub marking-done : (p : ℕ → Bool) (m : List ℕ) (i : ℕ) → Flagging p m i → maxLetters ≤ i → m ≡ flagsBy maxLetters p
 marking-done p m i k h =
-    ext-getD 0 m (marksBy maxLetters p) (k .size ∙ sym (length-marks maxLetters p))
+    ext-getD 0 m (flagsBy maxLetters p) (k .size ∙ sym (length-marks maxLetters p))
     (λ b l. let j : b < maxLetters = subst (λ n. b < n) (k .size) l in k .done b (omega (arith, k .few)) ∙ sym (getD-marks maxLetters p b j))
 
 -- two lists that are the same up to b, and at b

@@ -14,9 +14,9 @@ use Rattle.language.proofs.Between.{between-bounds}
 use Rattle.language.proofs.Tests.{both-true, first-true, second-true}
 use Rattle.book.specs.Store.{Store}
 use Rattle.marks.specs.Formats.{ticked}
-use Rattle.reach.specs.Reach.{calledBy, marksBy, isMarked, anyOf, eachOf, spread, spreadBy, mostCalls, readable}
+use Rattle.reach.specs.Reach.{calledBy, flagsBy, isFlagged, anyOf, eachOf, spread, spreadBy, mostCalls, readable}
 use Rattle.reach.specs.Rounds.{rows, inArray, Marks, withRow, ReadsAll}
-use Rattle.reach.proofs.Marks.{marked-by, marks-same, marks-of}
+use Rattle.reach.proofs.Marks.{flagged-by, marks-same, marks-of}
 
 -- ── counts ──────────────────────────────────────────────────────────────────────────────────────
 
@@ -103,33 +103,33 @@ or-assoc false v w = refl
 
 -- what is marked, and what the first n letters that are marked call
 abbrev pub spreadTo : ℕ → (ℕ → ℕ → Bool) → List ℕ → List ℕ
-spreadTo n f m = marksBy maxLetters (λ b. isMarked m b || anyOf n (λ a. isMarked m a && f a b))
+spreadTo n f m = flagsBy maxLetters (λ b. isFlagged m b || anyOf n (λ a. isFlagged m a && f a b))
 
 pub spread-none : (f : ℕ → ℕ → Bool) (m : List ℕ) → Marks m → m ≡ spreadTo 0 f m
-spread-none f m h = h ∙ marks-same maxLetters (isMarked m) _ (λ b _. or-false (isMarked m b))
+spread-none f m h = h ∙ marks-same maxLetters (isFlagged m) _ (λ b _. or-false (isFlagged m b))
 
 pub spread-more : (c : List ℕ) (m next : List ℕ) (a : ℕ) → next ≡ spreadTo a (inArray c) m
-    → cond (isMarked m a) (withRow c (a * maxLetters) next) next ≡ spreadTo (a + 1) (inArray c) m
+    → cond (isFlagged m a) (withRow c (a * maxLetters) next) next ≡ spreadTo (a + 1) (inArray c) m
 unfolding withRow
-spread-more c m next a e = go (isMarked m a) refl ∙ ap (λ n. spreadTo n (inArray c) m) (sym (add-one a))
+spread-more c m next a e = go (isFlagged m a) refl ∙ ap (λ n. spreadTo n (inArray c) m) (sym (add-one a))
   where
-    go : (u : Bool) → isMarked m a ≡ u → cond u (withRow c (a * maxLetters) next) next ≡ spreadTo (suc a) (inArray c) m
+    go : (u : Bool) → isFlagged m a ≡ u → cond u (withRow c (a * maxLetters) next) next ≡ spreadTo (suc a) (inArray c) m
     go true q =
         ap (λ x. withRow c (a * maxLetters) x) e
         ∙ marks-same maxLetters _ _ (λ b h.
-        ap (λ x. x || inArray c a b) (marked-by (λ b. isMarked m b || anyOf a (λ k. isMarked m k && inArray c k b)) b h)
-        ∙ or-assoc (isMarked m b) (anyOf a (λ k. isMarked m k && inArray c k b)) (inArray c a b)
-        ∙ ap (λ x. isMarked m b || (anyOf a (λ k. isMarked m k && inArray c k b) || (x && inArray c a b))) (sym q))
+        ap (λ x. x || inArray c a b) (flagged-by (λ b. isFlagged m b || anyOf a (λ k. isFlagged m k && inArray c k b)) b h)
+        ∙ or-assoc (isFlagged m b) (anyOf a (λ k. isFlagged m k && inArray c k b)) (inArray c a b)
+        ∙ ap (λ x. isFlagged m b || (anyOf a (λ k. isFlagged m k && inArray c k b) || (x && inArray c a b))) (sym q))
     go false q =
         e ∙ marks-same maxLetters _ _ (λ b h.
-        ap (λ x. isMarked m b || x) (or-false (anyOf a (λ k. isMarked m k && inArray c k b)))
-        ∙ ap (λ x. isMarked m b || (anyOf a (λ k. isMarked m k && inArray c k b) || (x && inArray c a b))) (sym q))
+        ap (λ x. isFlagged m b || x) (or-false (anyOf a (λ k. isFlagged m k && inArray c k b)))
+        ∙ ap (λ x. isFlagged m b || (anyOf a (λ k. isFlagged m k && inArray c k b) || (x && inArray c a b))) (sym q))
 
 -- ── round after round ───────────────────────────────────────────────────────────────────────────
 
 pub spread-marks : (f : ℕ → ℕ → Bool) (m : List ℕ) → Marks (spread f m)
 unfolding spread
-spread-marks f m = marks-of (λ b. isMarked m b || anyOf maxLetters (λ a. isMarked m a && f a b))
+spread-marks f m = marks-of (λ b. isFlagged m b || anyOf maxLetters (λ a. isFlagged m a && f a b))
 
 pub rounds-marks : (f : ℕ → ℕ → Bool) (n : ℕ) (m : List ℕ) → Marks m → Marks (spreadBy f n m)
 unfolding spreadBy
@@ -172,7 +172,7 @@ module _ (f : ℕ → ℕ → Bool) (start m : List ℕ) (n : ℕ) (g : Followin
 
 -- ── a round so far ──────────────────────────────────────────────────────────────────────────────
 
--- the letters before a are heard
+-- the letters before a have been gone through
 pub record Spreading (c m x : List ℕ) (a : ℕ) : Type 0 where
   pub few : a ≤ maxLetters
   pub next : x ≡ spreadTo a (inArray c) m
@@ -181,7 +181,7 @@ pub spreading-none : (c m : List ℕ) → Marks m → Spreading c m m 0
 spreading-none c m h = record { few = omega arith; next = spread-none (inArray c) m h }
 
 pub spreading-more : (c m next more : List ℕ) (a : ℕ) → Spreading c m next a → a < maxLetters
-    → more ≡ cond (isMarked m a) (withRow c (a * maxLetters) next) next → Spreading c m more (a + 1)
+    → more ≡ cond (isFlagged m a) (withRow c (a * maxLetters) next) next → Spreading c m more (a + 1)
 spreading-more c m next more a s h e = record { few = omega arith; next = e ∙ spread-more c m next a (s .next) }
 
 pub spreading-done : (c m next : List ℕ) (a : ℕ) → Spreading c m next a → maxLetters ≤ a → next ≡ spread (inArray c) m

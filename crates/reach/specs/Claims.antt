@@ -9,22 +9,22 @@ use Rattle.book.specs.Calls.{Run}
 use Rattle.book.specs.Store.{Store}
 use Rattle.book.specs.History.{History}
 use Rattle.book.specs.Demand3.{runAfter}
-use Rattle.reach.specs.Reach.{Reaches, isMarked, Report, reach}
+use Rattle.reach.specs.Reach.{Reaches, isFlagged, Report, reach}
 
 -- "Reached means that some chain of call marks in the standing tables leads there; the letter itself counts as reached." In both directions, for any
 -- store and any letter, unless the call is refused. proofs/Claims `reached-exactly`
 abbrev pub ReachedExactly : Type 0
 ReachedExactly =
     (st : Store) (l : ℕ) (r m : List ℕ) (b : ℕ) → reach st l r m .number ≡ 0
-    → (isMarked (reach st l r m .reached) b ≡ true → Reaches st (letterIndex l) b)
-    × (Reaches st (letterIndex l) b → isMarked (reach st l r m .reached) b ≡ true)
+    → (isFlagged (reach st l r m .reached) b ≡ true → Reaches st (letterIndex l) b)
+    × (Reaches st (letterIndex l) b → isFlagged (reach st l r m .reached) b ≡ true)
 
 -- "missing (reached, without a text)". In both directions. proofs/Claims `missing-exactly`
 abbrev pub MissingExactly : Type 0
 MissingExactly =
     (st : Store) (l : ℕ) (r m : List ℕ) (b : ℕ) → reach st l r m .number ≡ 0
-    → (isMarked (reach st l r m .missing) b ≡ true → Reaches st (letterIndex l) b × (standsAt (st .used) b ≡ false))
-    × (Reaches st (letterIndex l) b × (standsAt (st .used) b ≡ false) → isMarked (reach st l r m .missing) b ≡ true)
+    → (isFlagged (reach st l r m .missing) b ≡ true → Reaches st (letterIndex l) b × (standsAt (st .used) b ≡ false))
+    × (Reaches st (letterIndex l) b × (standsAt (st .used) b ≡ false) → isFlagged (reach st l r m .missing) b ≡ true)
 
 -- A refused call leaves both arrays as they were. proofs/Claims `refusal-keeps`
 abbrev pub RefusalKeeps : Type 0
@@ -33,14 +33,14 @@ RefusalKeeps =
     → (reach st l r m .reached ≡ r) × (reach st l r m .missing ≡ m)
 
 -- some letter is marked
-pub record SomeMarked (m : List ℕ) : Type 0 where
+pub record SomeFlagged (m : List ℕ) : Type 0 where
   pub letter : ℕ
-  pub marked : isMarked m letter ≡ true
+  pub marked : isFlagged m letter ≡ true
 
 -- a report that is given, with a letter marked missing
 pub record Warns (x : Report) : Type 0 where
   pub given : x .number ≡ 0
-  pub missing : SomeMarked (x .missing)
+  pub missing : SomeFlagged (x .missing)
 
 -- "A run of that letter from a sequence-made store may end 27 only when some letter is marked missing." Of every session of a program.
 -- proofs/Claims `ends-no-text`

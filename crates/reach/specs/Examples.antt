@@ -16,7 +16,7 @@ use Rattle.language.specs.Trials.{bytes, neg}
 use Rattle.book.specs.Calls.{defines, withdraws}
 use Rattle.book.specs.Store.{Store, storeOf, freshStore, storeCall}
 use Rattle.book.specs.Sessions.{after}
-use Rattle.reach.specs.Reach.{marksBy, spreadBy, mostCalls, Report, reach}
+use Rattle.reach.specs.Reach.{flagsBy, spreadBy, mostCalls, Report, reach}
 
 -- ── how a report is shown ───────────────────────────────────────────────────────────────────────
 
@@ -101,7 +101,7 @@ changes =
 
 -- the letters that are reached from letter a, where f says which calls which
 abbrev pub follows : (ℕ → ℕ → Bool) → ℕ → List ℕ
-follows f a = lettersFrom 97 (spreadBy f mostCalls (marksBy maxLetters (λ b. eqb a b)))
+follows f a = lettersFrom 97 (spreadBy f mostCalls (flagsBy maxLetters (λ b. eqb a b)))
 
 -- each letter calls the next; each calls the one before; each the next but one, and y and z the first two. proofs/Examples `chains-hold`
 abbrev pub chains : List (List ℕ × List ℕ)
@@ -119,7 +119,7 @@ chains =
 abbrev pub padded : List ℤ → ℕ → List ℤ
 padded l n = l ++ replicate n (pos 0)
 
--- letter a with `(b;)`, and letter b with the cells given, then n that hold 0, u of them used; letters from c on have no text; the marks k and the
+-- letter a with `(b;)`, and letter b with the cells given, then n that hold 0, u of them used; letters from c on have no text; the permissions k and the
 -- variables v
 abbrev pub marked : List ℤ → ℕ → ℕ → List ℕ → List ℤ → Store
 marked l n u k v =

@@ -44,13 +44,13 @@ pub record Reaches (st : Store) (a b : ℕ) : Type 0 where
 -- ── the report ──────────────────────────────────────────────────────────────────────────────────
 
 -- "two marks for each of the 26 letters": a mark for each of n letters, by a test
-abbrev pub marksBy : ℕ → (ℕ → Bool) → List ℕ
-marksBy zero p = []
-marksBy (suc n) p = cond (p zero) 1 0 ∷ marksBy n (λ b. p (suc b))
+abbrev pub flagsBy : ℕ → (ℕ → Bool) → List ℕ
+flagsBy zero p = []
+flagsBy (suc n) p = cond (p zero) 1 0 ∷ flagsBy n (λ b. p (suc b))
 
 -- letter b is marked
-abbrev pub isMarked : List ℕ → ℕ → Bool
-isMarked m b = eqb (getD m b 0) 1
+abbrev pub isFlagged : List ℕ → ℕ → Bool
+isFlagged m b = eqb (getD m b 0) 1
 
 -- one of the first n letters passes a test
 abbrev pub anyOf : ℕ → (ℕ → Bool) → Bool
@@ -59,7 +59,7 @@ anyOf (suc n) p = anyOf n p || p n
 
 -- a call further: what is marked, and what a marked letter calls, where f says which letter calls which
 unfoldable pub spread : (ℕ → ℕ → Bool) → List ℕ → List ℕ
-spread f m = marksBy maxLetters (λ b. isMarked m b || anyOf maxLetters (λ a. isMarked m a && f a b))
+spread f m = flagsBy maxLetters (λ b. isFlagged m b || anyOf maxLetters (λ a. isFlagged m a && f a b))
 
 -- n calls further
 unfoldable pub spreadBy : (ℕ → ℕ → Bool) → ℕ → List ℕ → List ℕ
@@ -72,11 +72,11 @@ mostCalls = maxLetters - 1
 
 -- "reached", from letter a
 unfoldable pub reachedBy : Store → ℕ → List ℕ
-reachedBy st a = spreadBy (calls st) mostCalls (marksBy maxLetters (λ b. eqb a b))
+reachedBy st a = spreadBy (calls st) mostCalls (flagsBy maxLetters (λ b. eqb a b))
 
 -- "missing (reached, without a text)", of the letters marked in m
 unfoldable pub missingOf : List ℕ → List ℕ → List ℕ
-missingOf u m = marksBy maxLetters (λ b. isMarked m b && not (standsAt u b))
+missingOf u m = flagsBy maxLetters (λ b. isFlagged m b && not (standsAt u b))
 
 -- each of the first n letters passes a test
 abbrev pub eachOf : ℕ → (ℕ → Bool) → Bool

@@ -10,7 +10,7 @@ use Rattle.language.specs.Limits.{maxLetters}
 use Rattle.language.specs.Tables.{soundCount, soundUsed}
 use Rattle.book.specs.Store.{Store, storeOf}
 use Rattle.marks.specs.Formats.{callPlaces, ticked}
-use Rattle.reach.specs.Reach.{calledBy, marksBy, isMarked, eachOf, readable}
+use Rattle.reach.specs.Reach.{calledBy, flagsBy, isFlagged, eachOf, readable}
 
 -- ── the calls of all letters ────────────────────────────────────────────────────────────────────
 
@@ -25,7 +25,7 @@ rows st (suc n) = ticked (rows st n) (n * maxLetters) (calledBy st n)
 
 -- letter a calls letter b, by the array
 abbrev pub inArray : List ℕ → ℕ → ℕ → Bool
-inArray c a b = isMarked c (a * maxLetters + b)
+inArray c a b = isFlagged c (a * maxLetters + b)
 
 -- a letter's index, and its used-cell count is sound
 pub record Counted (u : List ℕ) (a : ℕ) : Type 0 where
@@ -51,16 +51,16 @@ pub record ReadsAll (st : Store) (r : Bool) (after : List ℕ) : Type 0 where
 
 -- a mark for each letter, 0 or 1
 abbrev pub Marks : List ℕ → Type 0
-Marks m = m ≡ marksBy maxLetters (isMarked m)
+Marks m = m ≡ flagsBy maxLetters (isFlagged m)
 
 -- one of two marks, or both
-abbrev pub eitherMark : ℕ → ℕ → ℕ
-eitherMark x y = cond (eqb x 1 || eqb y 1) 1 0
+abbrev pub eitherFlag : ℕ → ℕ → ℕ
+eitherFlag x y = cond (eqb x 1 || eqb y 1) 1 0
 
 -- what is marked, and the row of the array that starts at place `from`
 unfoldable pub withRow : List ℕ → ℕ → List ℕ → List ℕ
-withRow c from m = marksBy maxLetters (λ b. isMarked m b || isMarked c (from + b))
+withRow c from m = flagsBy maxLetters (λ b. isFlagged m b || isFlagged c (from + b))
 
 -- a mark without a text: u is the letter's used-cell count
-abbrev pub missingMark : ℕ → ℕ → ℕ
-missingMark x u = cond (eqb x 1 && eqb u 0) 1 0
+abbrev pub missingFlag : ℕ → ℕ → ℕ
+missingFlag x u = cond (eqb x 1 && eqb u 0) 1 0

@@ -5,7 +5,7 @@ ghost use lib.Dec.{eqb};
 ghost use Rattle.book.specs.Store.{storeOf};
 ghost use Rattle.marks.specs.Formats.{Row};
 ghost use Rattle.reach.specs.Reach.{spread, spreadBy, mostCalls, missingOf, reports, reach};
-ghost use Rattle.reach.specs.Rounds.{tables, inArray, Counted, ReadsOne, Clear, ReadsAll, Marks, eitherMark, withRow, missingMark};
+ghost use Rattle.reach.specs.Rounds.{tables, inArray, Counted, ReadsOne, Clear, ReadsAll, Marks, eitherFlag, withRow, missingFlag};
 use language::Ending;
 use language::LETTERS;
 use language::STORE_CELLS;
@@ -54,7 +54,7 @@ fn read_all(cells: &[i32; STORE_CELLS], used: &[usize; LETTERS], calls: &mut [u8
 
 // One of two marks, or both.
 fn either(x: u8, y: u8) -> u8
-    ensures { λ r. ⌜ r ≡ eitherMark x y ⌝ }
+    ensures { λ r. ⌜ r ≡ eitherFlag x y ⌝ }
 {
     if x == 1 {
         return 1;
@@ -77,7 +77,7 @@ fn with_row(calls: &[u8; CALLS], from: usize, marks: [u8; LETTERS]) -> [u8; LETT
 }
 
 // The same where the letter whose row it is has a mark, else what is marked.
-fn heard(calls: &[u8; CALLS], from: usize, mark: u8, marks: [u8; LETTERS]) -> [u8; LETTERS]
+fn with_row_if(calls: &[u8; CALLS], from: usize, mark: u8, marks: [u8; LETTERS]) -> [u8; LETTERS]
     requires { ⌜ Row from ⌝ }
     ensures { λ r. ⌜ r ≡ cond (eqb mark 1) (withRow (now (calls .entry)) from marks) marks ⌝ }
 {
@@ -95,7 +95,7 @@ fn spread(calls: &[u8; CALLS], marks: [u8; LETTERS]) -> [u8; LETTERS]
     let mut next = marks;
     let mut a: usize = 0;
     while a < LETTERS {
-        let more = heard(calls, a * LETTERS, marks[a], next);
+        let more = with_row_if(calls, a * LETTERS, marks[a], next);
         next = more;
         a += 1;
     }
@@ -135,8 +135,8 @@ fn follow(calls: &[u8; CALLS], marks: [u8; LETTERS]) -> [u8; LETTERS]
 }
 
 // A mark of a letter without a text.
-fn missing_mark(x: u8, end: usize) -> u8
-    ensures { λ r. ⌜ r ≡ missingMark x end ⌝ }
+fn missing_flag(x: u8, end: usize) -> u8
+    ensures { λ r. ⌜ r ≡ missingFlag x end ⌝ }
 {
     if x != 1 {
         return 0;
@@ -151,7 +151,7 @@ fn without_text(used: &[usize; LETTERS], marks: [u8; LETTERS]) -> [u8; LETTERS]
     let mut missing = marks;
     let mut b: usize = 0;
     while b < LETTERS {
-        missing[b] = missing_mark(marks[b], used[b]);
+        missing[b] = missing_flag(marks[b], used[b]);
         b += 1;
     }
     missing

@@ -34,7 +34,7 @@ returns c =
     let v = c .before .before .before .before .before .before .before .before .before .top .result in
     let e : toZ w32 (ofZ w32 v) ≡ v = search needs in
     run-printed _ _ _ _ _ _ _ _ _ (c .before .before .before .before .before .before .before .before .before .before .before .before .before .run .ensures) _ (toZ w32 (ofZ w32 v)) (c .before .before .before .before .before .before .before .before .before .before .before .before .before .before .before .before .before .before .pre) (omega (arith, short (c .before .before .before .before .before .before .before .before .before .before .before .before .before))) (e ∙ c .before .before .before .before .before .before .before .before .before .top .ensures)
-    (c .before .before .before .before .before .before .before .write-figures .ensures) (c .before .before .write-output .ensures)
+    (c .before .before .before .before .before .before .before .write-columns .ensures) (c .before .before .write-output .ensures)
 
 pub execute-spec : {M : Type 1} → statement M
 execute-spec =

@@ -11,7 +11,7 @@ use Rattle.lines.specs.declared.Command.{Command}
 use Rattle.lines.specs.Lines.{define, request}
 use Rattle.lines.specs.Commands.{fieldStart, Asks}
 use Rattle.commands.specs.Served.{granted, printed}
-use Rattle.commands.proofs.Served.{told-printed, no-room, by-request}
+use Rattle.commands.proofs.Served.{changed-printed, no-room, by-request}
 use borrow.Author.Needs.{needs}
 use Rattle.commands.proofs.perform.Statement.{statement}
 use Rattle.commands.proofs.perform.Tie as tie
@@ -47,7 +47,7 @@ unfolding granted
 returns-2 c =
     let s = c .before .before .before .before .before .before .before .before .before .before .before .before .before .before .before .before .before .before .args in
     let st = storeOf (now (s .cells)) (now (s .used)) (now (s .permissions)) (now (s .vars)) in
-    told-printed st _ (s .number) _ _ (now (s .paper)) _ _ (c .before .before .before .before .define .ensures) (c .before .before .tell .ensures)
+    changed-printed st _ (s .number) _ _ (now (s .paper)) _ _ (c .before .before .before .before .define .ensures) (c .before .before .tell .ensures)
     ∙ ap (λ t. printed (now (s .paper)) (granted storeCall st (s .number) (define (c .before .before .before .before .before .before .before .before .before .before .before .command .given .0 .0) t)))
     (take-all (length (now (s .line)) - fieldStart) (drop fieldStart (now (s .line))) (omega (arith, length-drop fieldStart (now (s .line)))))
     ∙ by-request st (s .number) (now (s .line)) (now (s .paper)) _ (c .before .before .before .before .before .before .before .before .before .before .before .before .before .before .before .if1 .left) (asks (c .before .before .before .before .before .before .before .before .before .before .before .before .before) _ (c .before .before .before .before .before .before .before .before .before .before .before .command .given .1) .means)
@@ -57,7 +57,7 @@ unfolding granted
 returns-3 c =
     let s = c .before .before .before .before .before .before .before .before .before .before .before .before .before .before .before .before .before .args in
     let st = storeOf (now (s .cells)) (now (s .used)) (now (s .permissions)) (now (s .vars)) in
-    told-printed st _ (s .number) _ _ (now (s .paper)) _ _ (c .before .before .before .before .withdraw .ensures) (c .before .before .tell2 .ensures)
+    changed-printed st _ (s .number) _ _ (now (s .paper)) _ _ (c .before .before .before .before .withdraw .ensures) (c .before .before .tell2 .ensures)
     ∙ by-request st (s .number) (now (s .line)) (now (s .paper)) _ (c .before .before .before .before .before .before .before .before .before .before .before .before .before .before .if1 .left) (asks (c .before .before .before .before .before .before .before .before .before .before .before .before) _ (c .before .before .before .before .before .before .before .before .before .before .command2 .given .1) .means)
 
 returns-4 : tie.Need-returns-4

@@ -15,14 +15,14 @@ abbrev μ-loop : tie.MeasureT-loop
 loop-holds : tie.Need-loop-holds Inv-loop μ-loop
 loop-holds c = spreading-none _ _ (c .pre)
 
-mul-heard : tie.Need-mul-heard Inv-loop μ-loop
-mul-heard c = omega arith
+mul-with-row-if : tie.Need-mul-with-row-if Inv-loop μ-loop
+mul-with-row-if c = omega arith
 
-array-read-heard : tie.Need-array-read-heard Inv-loop μ-loop
-array-read-heard c = omega arith
+array-read-with-row-if : tie.Need-array-read-with-row-if Inv-loop μ-loop
+array-read-with-row-if c = omega arith
 
-heard-requires : tie.Need-heard-requires Inv-loop μ-loop
-heard-requires c κs = omega arith
+with-row-if-requires : tie.Need-with-row-if-requires Inv-loop μ-loop
+with-row-if-requires c κs = omega arith
 
 add-a : tie.Need-add-a Inv-loop μ-loop
 add-a c = omega arith
@@ -31,11 +31,11 @@ loop-less : tie.Need-loop-less Inv-loop μ-loop
 loop-less c = omega arith
 
 loop-again : tie.Need-loop-again Inv-loop μ-loop
-loop-again c = spreading-more _ _ _ _ _ (c .before .before .loop .inv) (omega arith) (c .heard .ensures)
+loop-again c = spreading-more _ _ _ _ _ (c .before .before .loop .inv) (omega arith) (c .with-row-if .ensures)
 
 returns : tie.Need-returns Inv-loop μ-loop
 returns c = spreading-done _ _ _ _ (c .before .loop .inv) (omega arith)
 
 pub spread-spec : {M : Type 1} → statement M
 spread-spec =
-    tie.close (tie.spec Inv-loop μ-loop loop-holds mul-heard array-read-heard heard-requires add-a loop-less loop-again returns)
+    tie.close (tie.spec Inv-loop μ-loop loop-holds mul-with-row-if array-read-with-row-if with-row-if-requires add-a loop-less loop-again returns)

@@ -4,14 +4,14 @@ use Prim.Native.Nat.{_+_, _-_}
 use native.Mathlib.Omega.{arith}
 use borrow.Author.Needs.{needs}
 use Rattle.language.specs.Limits.{maxLetters}
-use Rattle.reach.specs.Reach.{isMarked}
+use Rattle.reach.specs.Reach.{isFlagged}
 use Rattle.reach.specs.Rounds.{withRow}
-use Rattle.reach.proofs.Marks.{Marking, marking-none, marking-more, marking-done}
+use Rattle.reach.proofs.Marks.{Flagging, marking-none, marking-more, marking-done}
 use Rattle.reach.proofs.with_row.Statement.{statement}
 use Rattle.reach.proofs.with_row.Tie as tie
 
 abbrev Inv-loop : tie.InvT-loop
-Inv-loop calls from marks next₀ b₀ next b = Marking (λ j. isMarked marks j || isMarked calls (from + j)) next b
+Inv-loop calls from marks next₀ b₀ next b = Flagging (λ j. isFlagged marks j || isFlagged calls (from + j)) next b
 
 abbrev μ-loop : tie.MeasureT-loop
 μ-loop calls from marks next₀ b₀ next b = maxLetters - b

@@ -9,13 +9,13 @@ use denote.Ref.{now}
 use borrow.Author.Needs.{needs}
 use Rattle.language.specs.Tables.{standsAt}
 use Rattle.language.specs.Limits.{maxLetters}
-use Rattle.reach.specs.Reach.{isMarked, missingOf}
-use Rattle.reach.proofs.Marks.{Marking, marking-none, marking-more, marking-done, marks-same, not-not}
+use Rattle.reach.specs.Reach.{isFlagged, missingOf}
+use Rattle.reach.proofs.Marks.{Flagging, marking-none, marking-more, marking-done, marks-same, not-not}
 use Rattle.reach.proofs.without_text.Statement.{statement}
 use Rattle.reach.proofs.without_text.Tie as tie
 
 abbrev Inv-loop : tie.InvT-loop
-Inv-loop used marks missing₀ b₀ missing b = Marking (λ j. isMarked marks j && eqb (getD used j 0) 0) missing b
+Inv-loop used marks missing₀ b₀ missing b = Flagging (λ j. isFlagged marks j && eqb (getD used j 0) 0) missing b
 
 abbrev μ-loop : tie.MeasureT-loop
 μ-loop used marks missing₀ b₀ missing b = maxLetters - b
@@ -23,14 +23,14 @@ abbrev μ-loop : tie.MeasureT-loop
 loop-holds : tie.Need-loop-holds Inv-loop μ-loop
 loop-holds c = marking-none _ _ (search needs)
 
-array-read-missing-mark : tie.Need-array-read-missing-mark Inv-loop μ-loop
-array-read-missing-mark c = omega arith
+array-read-missing-flag : tie.Need-array-read-missing-flag Inv-loop μ-loop
+array-read-missing-flag c = omega arith
 
-element-copy-out-missing-mark : tie.Need-element-copy-out-missing-mark Inv-loop μ-loop
-element-copy-out-missing-mark c = omega arith
+element-copy-out-missing-flag : tie.Need-element-copy-out-missing-flag Inv-loop μ-loop
+element-copy-out-missing-flag c = omega arith
 
-missing-mark-requires : tie.Need-missing-mark-requires Inv-loop μ-loop
-missing-mark-requires c κs = tt
+missing-flag-requires : tie.Need-missing-flag-requires Inv-loop μ-loop
+missing-flag-requires c κs = tt
 
 add-b : tie.Need-add-b Inv-loop μ-loop
 add-b c = omega arith
@@ -39,15 +39,15 @@ loop-less : tie.Need-loop-less Inv-loop μ-loop
 loop-less c = omega arith
 
 loop-again : tie.Need-loop-again Inv-loop μ-loop
-loop-again c = marking-more _ _ _ _ (c .before .before .before .loop .inv) (omega arith) (c .missing-mark .ensures)
+loop-again c = marking-more _ _ _ _ (c .before .before .before .loop .inv) (omega arith) (c .missing-flag .ensures)
 
 returns : tie.Need-returns Inv-loop μ-loop
 unfolding missingOf
 returns c = marking-done _ _ _ (c .before .loop .inv) (omega arith)
-    ∙ marks-same maxLetters (λ j. isMarked (c .before .before .args .t2) j && eqb (getD (now (c .before .before .args .used)) j 0) 0) (λ j. isMarked (c .before .before .args .t2) j && not (standsAt (now (c .before .before .args .used)) j))
-    (λ b _. ap (λ x. isMarked (c .before .before .args .t2) b && x) (not-not (eqb (getD (now (c .before .before .args .used)) b 0) 0)))
+    ∙ marks-same maxLetters (λ j. isFlagged (c .before .before .args .t2) j && eqb (getD (now (c .before .before .args .used)) j 0) 0) (λ j. isFlagged (c .before .before .args .t2) j && not (standsAt (now (c .before .before .args .used)) j))
+    (λ b _. ap (λ x. isFlagged (c .before .before .args .t2) b && x) (not-not (eqb (getD (now (c .before .before .args .used)) b 0) 0)))
 
 pub without-text-spec : {M : Type 1} → statement M
 without-text-spec =
-    tie.close (tie.spec Inv-loop μ-loop loop-holds array-read-missing-mark (λ c. search needs) element-copy-out-missing-mark missing-mark-requires
+    tie.close (tie.spec Inv-loop μ-loop loop-holds array-read-missing-flag (λ c. search needs) element-copy-out-missing-flag missing-flag-requires
     (λ c. search needs) add-b loop-less loop-again returns)

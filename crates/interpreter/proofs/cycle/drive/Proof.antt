@@ -10,6 +10,7 @@ use Rattle.language.proofs.EffectsLent.{lent-start}
 use Rattle.language.specs.Statements.{Lent}
 use Rattle.operands.specs.Held.{Held, held, stateOf, framesOf}
 use Rattle.operands.proofs.Held.{length-frames}
+use Rattle.book.specs.Store.{storeOf}
 use Rattle.interpreter.specs.Runs.{ran}
 use Rattle.interpreter.proofs.Loop.{after, runAt}
 use Rattle.interpreter.proofs.Runs.{Looping, Entering, Stretch, fit-of, allowed-of, leftOver, left-resumed, resuming, resume, falls, stretch-none, stretch-more, lent, driven}
@@ -18,7 +19,7 @@ use Rattle.interpreter.proofs.cycle.drive.Tie as tie
 
 abbrev Inv-loop : tie.InvT-loop
 Inv-loop cells used permissions role inputs letter allowance vars₀ list output₀ frames₀ counts₀ slots₀ m₀ vars output frames counts slots m =
-    Entering allowance output₀ (ran cells used permissions role letter allowance vars₀ inputs output₀) (held m cells used permissions role inputs frames counts vars slots output)
+    Entering allowance output₀ (ran (storeOf cells used permissions vars₀) (record { letter = letter; role = role; allowance = allowance; inputs = inputs; output = output₀ })) (held m cells used permissions role inputs frames counts vars slots output)
 
 abbrev μ-loop : tie.MeasureT-loop
 μ-loop cells used permissions role inputs letter allowance vars₀ list output₀ frames₀ counts₀ slots₀ m₀ vars output frames counts slots m =
@@ -43,8 +44,14 @@ module _ (c : tie.At-loop Inv-loop2 μ-loop2 Inv-loop μ-loop) where
   -- the run that it makes
   abbrev run : Outcome
   run =
-      ran (now (s .args .cells)) (now (s .args .used)) (now (s .args .permissions)) (s .args .role) (s .args .letter) (s .args .allowance) (now (s .args .vars)) (now (s .args .inputs))
-      (now (s .args .output))
+      ran (storeOf (now (s .args .cells)) (now (s .args .used)) (now (s .args .permissions)) (now (s .args .vars)))
+      (record {
+        letter = s .args .letter;
+        role = s .args .role;
+        allowance = s .args .allowance;
+        inputs = now (s .args .inputs);
+        output = now (s .args .output);
+      })
 
 -- at the inner loop's
 module _ (c : tie.At-loop2 Inv-loop2 μ-loop2 Inv-loop μ-loop) where

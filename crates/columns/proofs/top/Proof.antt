@@ -2,9 +2,9 @@
 use mathlib.Core.Path.{_∙_}
 use mir.Facts.{toZ-ofZ}
 use borrow.Author.Needs.{needs}
-use Rattle.figures.proofs.Printed.{top-none, top-past, top-at}
-use Rattle.figures.proofs.top.Statement.{statement}
-use Rattle.figures.proofs.top.Tie as tie
+use Rattle.columns.proofs.Printed.{top-none, top-past, top-at}
+use Rattle.columns.proofs.top.Statement.{statement}
+use Rattle.columns.proofs.top.Tie as tie
 
 returns : tie.Need-returns
 returns c = top-none _ _ (c .if1 .taken)

@@ -2,9 +2,9 @@
 use native.Mathlib.Omega.{arith}
 use denote.Ref.{now}
 use borrow.Author.Needs.{needs}
-use Rattle.figures.proofs.Printed.{output-none, output-no-room, output-written}
-use Rattle.figures.proofs.write_output.Statement.{statement}
-use Rattle.figures.proofs.write_output.Tie as tie
+use Rattle.columns.proofs.Printed.{output-none, output-no-room, output-written}
+use Rattle.columns.proofs.write_output.Statement.{statement}
+use Rattle.columns.proofs.write_output.Tie as tie
 
 returns : tie.Need-returns
 returns c = output-none _ _ _ (c .if1 .taken)

@@ -3,9 +3,9 @@ use denote.Ref.{now}
 use mir.Syntax.{w32}
 use mir.Facts.{toZ-ofZ}
 use borrow.Author.Needs.{needs}
-use Rattle.figures.proofs.Printed.{all-fields}
-use Rattle.figures.proofs.write_fields.Statement.{statement}
-use Rattle.figures.proofs.write_fields.Tie as tie
+use Rattle.columns.proofs.Printed.{all-fields}
+use Rattle.columns.proofs.write_fields.Statement.{statement}
+use Rattle.columns.proofs.write_fields.Tie as tie
 
 returns : tie.Need-returns
 returns c =
@@ -18,8 +18,8 @@ returns c =
     let w₁ = w₂ .before .before .before .before in
     let s = w₁ .before .before .before .before in
     -- what a struct tells of its sixth field
-    let told = w₁ .before .before .struct-told .given .1 .1 .1 .1 .1 .0 in
-    let fits = toZ-ofZ {w = w32} {z = s .args .f .top} (record { sfits = told .1 }) in
+    let known = w₁ .before .before .struct-told .given .1 .1 .1 .1 .1 .0 in
+    let fits = toZ-ofZ {w = w32} {z = s .args .f .top} (record { sfits = known .1 }) in
     all-fields (now (s .args .text)) (s .args .f) (s .pre) (w₃ .before .one-if .ensures) (w₁ .write-number .ensures) (w₂ .write-number2 .ensures)
     (w₃ .write-number3 .ensures) (w₄ .write-number4 .ensures) (w₅ .write-number5 .ensures) (rw fits at (w₆ .write-value .ensures)) (w₇ .write-bytes .ensures) .same
 

@@ -1,4 +1,4 @@
-// What a desk line prints: figures right-justified in columns, and a run's output.
+// What a desk line prints: columns right-justified in columns, and a run's output.
 use numerals::COLUMNS;
 use numerals::write_bytes;
 use numerals::write_number;
@@ -6,7 +6,7 @@ use numerals::write_value;
 ghost use mathlib.Core.Path.{_≡_};
 ghost use lib.ListN.{length};
 ghost use Rattle.numerals.specs.Numerals.{wrote, written};
-ghost use Rattle.figures.specs.Printed.{mostBytes, bit, figures, paper, top};
+ghost use Rattle.columns.specs.Printed.{mostBytes, bit, columns, paper, top};
 
 // The widths of line number, answer, truth, steps, height and top.
 const LINE_WIDTH: usize = 4;
@@ -21,11 +21,11 @@ const HEIGHT_WIDTH: usize = 4;
 
 const TOP_WIDTH: usize = 11;
 
-// Room for a line's figures: six numbers and a newline.
+// Room for a line's columns: six numbers and a newline.
 const MOST_BYTES: usize = 6 * COLUMNS + 1;
 
-// A line's figures.
-pub struct Figures {
+// A line's columns.
+pub struct LineColumns {
     pub line: u32,
     pub answer: u32,
     pub truth: bool,
@@ -40,10 +40,10 @@ fn one_if(truth: bool) -> u32
     if truth { 1 } else { 0 }
 }
 
-// A line's figures at the start of a buffer that has room for them.
-fn write_fields(text: &mut [u8], f: Figures) -> usize
+// A line's columns at the start of a buffer that has room for them.
+fn write_fields(text: &mut [u8], f: LineColumns) -> usize
     requires { ⌜ length (now text) ≡ mostBytes ⌝ }
-    ensures { λ r. ⌜ wrote r (now (text .exit)) ≡ written (now (text .entry)) 0 (figures f) ⌝ }
+    ensures { λ r. ⌜ wrote r (now (text .exit)) ≡ written (now (text .entry)) 0 (columns f) ⌝ }
 {
     let top = f.top;
     let a = write_number(text, 0, LINE_WIDTH, false, f.line);
@@ -55,9 +55,9 @@ fn write_fields(text: &mut [u8], f: Figures) -> usize
     write_bytes(text, g, b"\n")
 }
 
-// A line's figures at a place of a buffer: the place after them. Where they do not all fit, the buffer stays as it was, and the answer is the place itself.
-pub fn write_figures(out: &mut [u8], at: usize, f: Figures) -> usize
-    ensures { λ r. ⌜ wrote r (now (out .exit)) ≡ written (now (out .entry)) at (figures f) ⌝ }
+// A line's columns at a place of a buffer: the place after them. Where they do not all fit, the buffer stays as it was, and the answer is the place itself.
+pub fn write_columns(out: &mut [u8], at: usize, f: LineColumns) -> usize
+    ensures { λ r. ⌜ wrote r (now (out .exit)) ≡ written (now (out .entry)) at (columns f) ⌝ }
 {
     let mut text = [0u8; MOST_BYTES];
     let end = write_fields(&mut text, f);

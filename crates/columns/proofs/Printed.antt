@@ -13,11 +13,11 @@ use Rattle.language.specs.Decimals.{decimals, decimal, justified, padded}
 use Rattle.numerals.specs.Numerals.{Written, wrote, written, maxColumns}
 use Rattle.numerals.proofs.Decimals.{justified-most, padded-most}
 use Rattle.numerals.proofs.Numerals.{written-room, written-no-room, written-two}
-use Rattle.figures.specs.declared.Figures.{Figures}
-use Rattle.figures.specs.Printed.{lineWidth, answerWidth, truthWidth, stepsWidth, heightWidth, topWidth, bit, figures, mostBytes, paper, top}
+use Rattle.columns.specs.declared.LineColumns.{LineColumns}
+use Rattle.columns.specs.Printed.{lineWidth, answerWidth, truthWidth, stepsWidth, heightWidth, topWidth, bit, columns, mostBytes, paper, top}
 use Rattle.language.specs.Bytes.{newlineByte}
 
--- ── a line's figures ────────────────────────────────────────────────────────────────────────────
+-- ── a line's columns ────────────────────────────────────────────────────────────────────────────
 
 -- Bytes b, at most n, stand at the start of the buffer o, which is then o′, and end at the place r.
 pub record Begins (o b : List ℕ) (n r : ℕ) (o′ : List ℕ) : Type 0 where
@@ -30,7 +30,7 @@ more : (o a b : List ℕ) (n k : ℕ) {m r : ℕ} {o₁ o₂ : List ℕ}
 more o a b n k s q h l =
     record { same = written-two o 0 a b (s .same) q (omega (arith, s .size)); size = omega (arith, s .size, length-append a b) }
 
-pub all-fields : (o : List ℕ) (f : Figures) {o₁ o₂ o₃ o₄ o₅ o₆ o₇ : List ℕ} {a b c d e g r t : ℕ} → length o ≡ mostBytes → t ≡ bit (f .truth)
+pub all-fields : (o : List ℕ) (f : LineColumns) {o₁ o₂ o₃ o₄ o₅ o₆ o₇ : List ℕ} {a b c d e g r t : ℕ} → length o ≡ mostBytes → t ≡ bit (f .truth)
     → wrote a o₁ ≡ written o 0 (justified lineWidth (decimals false (f .line)))
     → wrote b o₂ ≡ written o₁ a (justified answerWidth (decimals false (f .answer)))
     → wrote c o₃ ≡ written o₂ b (justified truthWidth (decimals false t))
@@ -38,8 +38,8 @@ pub all-fields : (o : List ℕ) (f : Figures) {o₁ o₂ o₃ o₄ o₅ o₆ o�
     → wrote e o₅ ≡ written o₄ d (justified heightWidth (decimals false (f .height)))
     → wrote g o₆ ≡ written o₅ e (padded topWidth (f .top))
     → wrote r o₇ ≡ written o₆ g (newlineByte ∷ [])
-    → Begins o (figures f) mostBytes r o₇
-unfolding figures padded decimal
+    → Begins o (columns f) mostBytes r o₇
+unfolding columns padded decimal
 all-fields o f {o₁ = o₁} {a = a} h t e₁ e₂ e₃ e₄ e₅ e₆ e₇ =
     let s₁ : Begins o (justified lineWidth (decimals false (f .line))) maxColumns a o₁ = record { same = e₁; size = justified-most lineWidth false (f .line) (omega arith) } in
     let s₂ = more o _ _ maxColumns maxColumns s₁ e₂ (justified-most answerWidth false (f .answer) (omega arith)) (omega arith) in
@@ -54,10 +54,10 @@ length-seven : (a b c d e g t : List ℕ)
     → length (a ++ b ++ c ++ d ++ e ++ g ++ t) ≤ mostBytes
 length-seven a b c d e g t ha hb hc hd he hg ht = simp length-append (omega arith)
 
--- A line's figures are at most so many bytes.
-pub figures-most : (f : Figures) → length (figures f) ≤ mostBytes
-unfolding figures
-figures-most f =
+-- A line's columns are at most so many bytes.
+pub columns-most : (f : LineColumns) → length (columns f) ≤ mostBytes
+unfolding columns
+columns-most f =
     length-seven
     (padded lineWidth (pos (f .line)))
     (padded answerWidth (pos (f .answer)))
@@ -74,17 +74,17 @@ figures-most f =
     (padded-most topWidth (f .top) (omega arith))
     (omega arith)
 
--- the figures in a buffer that has room for them, as they are lent
-module _ (z : List ℕ) (f : Figures) (r : ℕ) (o : List ℕ) (h : length z ≡ mostBytes) (e : wrote r o ≡ written z 0 (figures f)) where
-  at-start : wrote r o ≡ wrote (0 + length (figures f)) (paste z 0 (figures f) (length (figures f)))
-  at-start = e ∙ sym (written-room z 0 (figures f) (omega (arith, figures-most f)))
+-- the columns in a buffer that has room for them, as they are lent
+module _ (z : List ℕ) (f : LineColumns) (r : ℕ) (o : List ℕ) (h : length z ≡ mostBytes) (e : wrote r o ≡ written z 0 (columns f)) where
+  at-start : wrote r o ≡ wrote (0 + length (columns f)) (paste z 0 (columns f) (length (columns f)))
+  at-start = e ∙ sym (written-room z 0 (columns f) (omega (arith, columns-most f)))
 
-  pub figures-end : r ≡ length (figures f)
-  figures-end = let e = ap (λ (x : Written). x .next) at-start in omega arith
+  pub columns-end : r ≡ length (columns f)
+  columns-end = let e = ap (λ (x : Written). x .next) at-start in omega arith
 
-  pub figures-lent : take r o ≡ figures f
-  figures-lent =
-      (λ i. take (at-start i .next) (at-start i .buffer)) ∙ take-paste z 0 (figures f) (length (figures f)) (omega arith) (omega arith) ∙ take-length (figures f)
+  pub columns-lent : take r o ≡ columns f
+  columns-lent =
+      (λ i. take (at-start i .next) (at-start i .buffer)) ∙ take-paste z 0 (columns f) (length (columns f)) (omega arith) (omega arith) ∙ take-length (columns f)
 
 -- ── a run's output ──────────────────────────────────────────────────────────────────────────────
 

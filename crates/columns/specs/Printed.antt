@@ -8,7 +8,7 @@ use lib.Dec.{eqb}
 use Rattle.language.specs.Bytes.{newlineByte}
 use Rattle.language.specs.Decimals.{padded}
 use Rattle.numerals.specs.Numerals.{maxColumns}
-use Rattle.figures.specs.declared.Figures.{Figures}
+use Rattle.columns.specs.declared.LineColumns.{LineColumns}
 
 -- the widths of what a line prints: "line number"
 abbrev pub lineWidth : ℕ
@@ -40,19 +40,19 @@ bit true = 1
 bit false = 0
 
 -- "Each line prints line number, answer, truth, steps, height, top (0 if none) right-justified in widths 4, 4, 3, 10, 4, 11"
-unfoldable pub figures : Figures → List ℕ
+unfoldable pub columns : LineColumns → List ℕ
 unfolding padded
-figures f =
+columns f =
     padded lineWidth (pos (f .line)) ++ padded answerWidth (pos (f .answer)) ++ padded truthWidth (pos (bit (f .truth)))
     ++ padded stepsWidth (pos (f .steps)) ++ padded heightWidth (pos (f .height)) ++ padded topWidth (f .top) ++ (newlineByte ∷ [])
 
--- room for a line's figures: six numbers and a newline
+-- room for a line's columns: six numbers and a newline
 abbrev pub mostBytes : ℕ
 mostBytes = 6 * maxColumns + 1
 
 -- "zeros for `D` and `X` and for refusals"
-abbrev pub told : ℕ → ℕ → Figures
-told line answer = record { line = line; answer = answer; truth = false; steps = 0; height = 0; top = pos 0 }
+abbrev pub plainColumns : ℕ → ℕ → LineColumns
+plainColumns line answer = record { line = line; answer = answer; truth = false; steps = 0; height = 0; top = pos 0 }
 
 -- "a run's output (4,096 bytes lent), if any, follows with a newline after it"
 unfoldable pub paper : List ℕ → List ℕ
