@@ -17,8 +17,8 @@ use Rattle.marks.specs.Marks.{marks, callsIn}
 use Rattle.marks.specs.Formats.{callPlaces, ticked}
 use Rattle.marks.proofs.Marks.{Letters, marks-letters}
 use Rattle.reach.specs.Reach.{calledBy, member, calls, flagsBy, isFlagged, anyOf, spread, spreadBy}
-use Rattle.reach.specs.Rounds.{rows, inArray, Marks}
-use Rattle.reach.proofs.Marks.{mark, mark-back, length-marks, getD-marks, marks-same, marks-of}
+use Rattle.reach.specs.Rounds.{rows, inArray, Flags}
+use Rattle.reach.proofs.Flags.{flag, flag-back, length-flags, getD-flags, flags-same, flags-of}
 use Rattle.reach.proofs.Rounds.{count-bounds, sound-at}
 
 -- ── ticks ───────────────────────────────────────────────────────────────────────────────────────
@@ -77,7 +77,7 @@ module _ (st : Store) (sound : soundUsed (st .used) ≡ true) where
   length-rows (suc n) = length-ticked (calledBy st n) (rows st n) (n * maxLetters) ∙ length-rows n
 
   rows-at : (n a b : ℕ) → n ≤ maxLetters → a < maxLetters → b < maxLetters
-      → getD (rows st n) (a * maxLetters + b) 0 ≡ cond (ltb a n) (mark (calls st a b)) 0
+      → getD (rows st n) (a * maxLetters + b) 0 ≡ cond (ltb a n) (flag (calls st a b)) 0
   unfolding rows
   rows-at zero a b h i j = replicate-at {A = ℕ} 0 callPlaces (a * maxLetters + b) ∙ (rw (le-ltb a 0 (omega arith)))
   rows-at (suc n) a b h i j = go (eqb a n) refl (rows-at n a b (omega arith) i j)
@@ -85,27 +85,27 @@ module _ (st : Store) (sound : soundUsed (st .used) ≡ true) where
       row : Letters (calledBy st n)
       row = called-letters st n sound
 
-      go : (u : Bool) → eqb a n ≡ u → getD (rows st n) (a * maxLetters + b) 0 ≡ cond (ltb a n) (mark (calls st a b)) 0
-          → getD (ticked (rows st n) (n * maxLetters) (calledBy st n)) (a * maxLetters + b) 0 ≡ cond (ltb a (suc n)) (mark (calls st a b)) 0
+      go : (u : Bool) → eqb a n ≡ u → getD (rows st n) (a * maxLetters + b) 0 ≡ cond (ltb a n) (flag (calls st a b)) 0
+          → getD (ticked (rows st n) (n * maxLetters) (calledBy st n)) (a * maxLetters + b) 0 ≡ cond (ltb a (suc n)) (flag (calls st a b)) 0
       go true q ih =
           let e : a ≡ n = eqb-true a n q in
           let clear : getD (rows st n) (n * maxLetters + b) 0 ≡ 0 =
-          subst (λ x. getD (rows st n) (x * maxLetters + b) 0 ≡ cond (ltb x n) (mark (calls st x b)) 0) e ih
-          ∙ ap (λ u. cond u (mark (calls st n b)) 0) (le-ltb n n (omega arith)) in
-          subst (λ x. getD (ticked (rows st n) (n * maxLetters) (calledBy st n)) (x * maxLetters + b) 0 ≡ cond (ltb x (suc n)) (mark (calls st x b)) 0) (sym e)
+          subst (λ x. getD (rows st n) (x * maxLetters + b) 0 ≡ cond (ltb x n) (flag (calls st x b)) 0) e ih
+          ∙ ap (λ u. cond u (flag (calls st n b)) 0) (le-ltb n n (omega arith)) in
+          subst (λ x. getD (ticked (rows st n) (n * maxLetters) (calledBy st n)) (x * maxLetters + b) 0 ≡ cond (ltb x (suc n)) (flag (calls st x b)) 0) (sym e)
           (ticked-at (calledBy st n) (rows st n) (n * maxLetters) b row (omega (arith, length-rows n)) j
           ∙ ap (λ x. cond (calls st n b) 1 x) clear
-          ∙ ap (λ u. cond u (mark (calls st n b)) 0) (sym (lt-ltb n (suc n) (omega arith))))
+          ∙ ap (λ u. cond u (flag (calls st n b)) 0) (sym (lt-ltb n (suc n) (omega arith))))
       go false q ih =
           let ne = eqb-false a n q in
           ticked-other (calledBy st n) (rows st n) (n * maxLetters) (a * maxLetters + b) row (ltb (a * maxLetters + b) (n * maxLetters)) refl
           (λ e. let w = ltb-false (a * maxLetters + b) (n * maxLetters) e in omega (arith, ne))
-          ∙ ih ∙ ap (λ u. cond u (mark (calls st a b)) 0) (by-ltb a n (λ u. u ≡ ltb a (suc n)) (λ k. sym (lt-ltb a (suc n) (omega arith))) (λ k. sym (le-ltb a (suc n) (omega (arith, ne)))))
+          ∙ ih ∙ ap (λ u. cond u (flag (calls st a b)) 0) (by-ltb a n (λ u. u ≡ ltb a (suc n)) (λ k. sym (lt-ltb a (suc n) (omega arith))) (λ k. sym (le-ltb a (suc n) (omega (arith, ne)))))
 
   -- the whole array
   pub array-calls : (a b : ℕ) → a < maxLetters → b < maxLetters → inArray (rows st maxLetters) a b ≡ calls st a b
   array-calls a b i j =
-      ap (λ x. eqb x 1) (rows-at maxLetters a b (omega arith) i j ∙ ap (λ u. cond u (mark (calls st a b)) 0) (lt-ltb a maxLetters i)) ∙ mark-back (calls st a b)
+      ap (λ x. eqb x 1) (rows-at maxLetters a b (omega arith) i j ∙ ap (λ u. cond u (flag (calls st a b)) 0) (lt-ltb a maxLetters i)) ∙ flag-back (calls st a b)
 
 -- ── the same calls ──────────────────────────────────────────────────────────────────────────────
 
@@ -120,7 +120,7 @@ any-same (suc n) p q h = λ i. any-same n p q (λ a l. h a (omega arith)) i || h
 spread-same : (f g : ℕ → ℕ → Bool) (m : List ℕ) → Alike f g → spread f m ≡ spread g m
 unfolding spread
 spread-same f g m h =
-    marks-same maxLetters _ _ (λ b j. ap (λ u. isFlagged m b || u) (any-same maxLetters _ _ (λ a i. ap (λ u. isFlagged m a && u) (h a b i j))))
+    flags-same maxLetters _ _ (λ b j. ap (λ u. isFlagged m b || u) (any-same maxLetters _ _ (λ a i. ap (λ u. isFlagged m a && u) (h a b i j))))
 
 pub rounds-same : (f g : ℕ → ℕ → Bool) (n : ℕ) (m : List ℕ) → Alike f g → spreadBy f n m ≡ spreadBy g n m
 unfolding spreadBy
@@ -130,16 +130,16 @@ rounds-same f g (suc n) m h = spread-same f g (spreadBy f n m) h ∙ ap (spread 
 -- one letter's mark alone
 pub start-flags : (a : ℕ) → a < maxLetters → set (replicate {A = ℕ} maxLetters 0) a 1 ≡ flagsBy maxLetters (λ b. eqb a b)
 start-flags a h =
-    ext-getD 0 _ _ (length-set (replicate {A = ℕ} maxLetters 0) a 1 ∙ length-replicate {A = ℕ} maxLetters 0 ∙ sym (length-marks maxLetters (λ b. eqb a b)))
+    ext-getD 0 _ _ (length-set (replicate {A = ℕ} maxLetters 0) a 1 ∙ length-replicate {A = ℕ} maxLetters 0 ∙ sym (length-flags maxLetters (λ b. eqb a b)))
     (λ b k. let j : b < maxLetters = subst (λ n. b < n) (length-set (replicate {A = ℕ} maxLetters 0) a 1 ∙ length-replicate {A = ℕ} maxLetters 0) k in
-    go b (eqb a b) refl ∙ sym (getD-marks maxLetters (λ b. eqb a b) b j))
+    go b (eqb a b) refl ∙ sym (getD-flags maxLetters (λ b. eqb a b) b j))
   where
-    go : (b : ℕ) (u : Bool) → eqb a b ≡ u → getD (set (replicate {A = ℕ} maxLetters 0) a 1) b 0 ≡ mark (eqb a b)
+    go : (b : ℕ) (u : Bool) → eqb a b ≡ u → getD (set (replicate {A = ℕ} maxLetters 0) a 1) b 0 ≡ flag (eqb a b)
     go b true q =
         let e : a ≡ b = eqb-true a b q in
-        subst (λ x. getD (set (replicate {A = ℕ} maxLetters 0) a 1) x 0 ≡ mark (eqb a x)) e (getD-set-same (replicate {A = ℕ} maxLetters 0) a 1 0 h ∙ (rw (eq-eqb a a refl)))
+        subst (λ x. getD (set (replicate {A = ℕ} maxLetters 0) a 1) x 0 ≡ flag (eqb a x)) e (getD-set-same (replicate {A = ℕ} maxLetters 0) a 1 0 h ∙ (rw (eq-eqb a a refl)))
     go b false q =
         getD-set-other (replicate {A = ℕ} maxLetters 0) a b 1 0 (λ e. eqb-false a b q (sym e)) ∙ replicate-at {A = ℕ} 0 maxLetters b ∙ (rw q)
 
-pub start-proper : (a : ℕ) → a < maxLetters → Marks (set (replicate maxLetters 0) a 1)
-start-proper a h = subst Marks (sym (start-flags a h)) (marks-of (λ b. eqb a b))
+pub start-proper : (a : ℕ) → a < maxLetters → Flags (set (replicate maxLetters 0) a 1)
+start-proper a h = subst Flags (sym (start-flags a h)) (flags-of (λ b. eqb a b))

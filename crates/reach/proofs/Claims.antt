@@ -38,7 +38,7 @@ use Rattle.book.proofs.History.{Agree, agree-sound, agree-fresh, both-call, agr
 use Rattle.book.proofs.Demand3.{history, always}
 use Rattle.reach.specs.Reach.{member, calls, Reaches, isFlagged, eachOf, readable, reachedBy, missingOf, Report, reports, reach}
 use Rattle.reach.specs.Claims.{ReachedExactly, MissingExactly, RefusalKeeps, Warns, EndsNoText, NeverDamaged}
-use Rattle.reach.proofs.Marks.{flagged-by, flagged-letter}
+use Rattle.reach.proofs.Flags.{flagged-by, flagged-letter}
 use Rattle.reach.proofs.Rounds.{each-all}
 use Rattle.reach.proofs.Answers.{store-refused, letter-refused, standing-refused, damaged-refused, given, sound-counts}
 use Rattle.reach.proofs.Closure.{reaches-itself, reaches-call, reached-sound, reached-complete, reached-letter}

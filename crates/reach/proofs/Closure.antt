@@ -13,9 +13,9 @@ use Rattle.language.proofs.Tests.{both-true, first-true, second-true}
 use Rattle.book.specs.Store.{Store}
 use Rattle.marks.proofs.Marks.{Letters}
 use Rattle.reach.specs.Reach.{calledBy, member, calls, Chain, Reaches, flagsBy, isFlagged, anyOf, spread, spreadBy, mostCalls, reachedBy}
-use Rattle.reach.specs.Rounds.{Marks}
-use Rattle.reach.proofs.Marks.{flagged-by, flagged-letter, marks-of}
-use Rattle.reach.proofs.Rounds.{or-true, rounds-marks}
+use Rattle.reach.specs.Rounds.{Flags}
+use Rattle.reach.proofs.Flags.{flagged-by, flagged-letter, flags-of}
+use Rattle.reach.proofs.Rounds.{or-true, rounds-flags}
 use Rattle.reach.proofs.Calls.{called-letters}
 
 -- ── chains ──────────────────────────────────────────────────────────────────────────────────────
@@ -146,7 +146,7 @@ grown (suc n) p q h = go (p zero) (q zero) refl refl (grown n (λ b. p (suc b)) 
         more (rw (d, e) (omega (arith, le)))
 
 -- a round changes nothing, or marks another letter
-round-grown : (f : ℕ → ℕ → Bool) (m : List ℕ) → Marks m → (spread f m ≡ m) ⊎ (total m < total (spread f m))
+round-grown : (f : ℕ → ℕ → Bool) (m : List ℕ) → Flags m → (spread f m ≡ m) ⊎ (total m < total (spread f m))
 unfolding spread
 round-grown f m h = go (grown maxLetters (isFlagged m) q (λ b e. left b e))
   where
@@ -160,11 +160,11 @@ round-grown f m h = go (grown maxLetters (isFlagged m) q (λ b e. left b e))
     go (alike z) = inl (sym z ∙ sym h)
     go (more k) = inr (subst (λ x. total x < total (flagsBy maxLetters q)) (sym h) k)
 
-module _ (f : ℕ → ℕ → Bool) (start : List ℕ) (proper : Marks start) (some : 1 ≤ total start) where
+module _ (f : ℕ → ℕ → Bool) (start : List ℕ) (proper : Flags start) (some : 1 ≤ total start) where
   rounds-total : (n : ℕ) → (spread f (spreadBy f n start) ≡ spreadBy f n start) ⊎ (suc n ≤ total (spreadBy f n start))
   unfolding spreadBy
   rounds-total zero = inr some
-  rounds-total (suc n) = go (rounds-total n) (round-grown f (spreadBy f n start) (rounds-marks f n start proper))
+  rounds-total (suc n) = go (rounds-total n) (round-grown f (spreadBy f n start) (rounds-flags f n start proper))
     where
       M : List ℕ
       M = spreadBy f n start
@@ -178,7 +178,7 @@ module _ (f : ℕ → ℕ → Bool) (start : List ℕ) (proper : Marks start) (s
 
   -- 25 rounds mark all that is marked ever
   rounds-over : spread f (spreadBy f mostCalls start) ≡ spreadBy f mostCalls start
-  rounds-over = go (rounds-total mostCalls) (round-grown f (spreadBy f mostCalls start) (rounds-marks f mostCalls start proper))
+  rounds-over = go (rounds-total mostCalls) (round-grown f (spreadBy f mostCalls start) (rounds-flags f mostCalls start proper))
     where
       go : (spread f (spreadBy f mostCalls start) ≡ spreadBy f mostCalls start) ⊎ (suc mostCalls ≤ total (spreadBy f mostCalls start))
           → (spread f (spreadBy f mostCalls start) ≡ spreadBy f mostCalls start) ⊎ (total (spreadBy f mostCalls start) < total (spread f (spreadBy f mostCalls start)))
@@ -191,12 +191,12 @@ module _ (f : ℕ → ℕ → Bool) (start : List ℕ) (proper : Marks start) (s
           most-marked = unfold spread in total-most maxLetters (λ b. isFlagged (spreadBy f mostCalls start) b || anyOf maxLetters (λ a. isFlagged (spreadBy f mostCalls start) a && f a b))
 
 -- the letter's own mark stays
-mark-stays : (st : Store) (a : ℕ) → a < maxLetters → (n : ℕ) → isFlagged (after st a n) a ≡ true
+flag-stays : (st : Store) (a : ℕ) → a < maxLetters → (n : ℕ) → isFlagged (after st a n) a ≡ true
 unfolding spreadBy spread
-mark-stays st a h zero = flagged-by (λ b. eqb a b) a h ∙ eq-eqb a a refl
-mark-stays st a h (suc n) =
+flag-stays st a h zero = flagged-by (λ b. eqb a b) a h ∙ eq-eqb a a refl
+flag-stays st a h (suc n) =
     flagged-by (test st (after st a n)) a h
-    ∙ ap (λ u. u || anyOf maxLetters (λ k. isFlagged (after st a n) k && calls st k a)) (mark-stays st a h n)
+    ∙ ap (λ u. u || anyOf maxLetters (λ k. isFlagged (after st a n) k && calls st k a)) (flag-stays st a h n)
 
 -- ── both directions ─────────────────────────────────────────────────────────────────────────────
 
@@ -210,9 +210,9 @@ module _ (st : Store) (a : ℕ) (sound : soundUsed (st .used) ≡ true) (letter 
   reached-complete b r =
       let start = flagsBy maxLetters (λ b. eqb a b) in
       let one : eqb a a ≡ true = eq-eqb a a refl in
-      let still = rounds-over (calls st) start (marks-of (λ b. eqb a b)) (total-some maxLetters a (λ b. eqb a b) letter one) in
+      let still = rounds-over (calls st) start (flags-of (λ b. eqb a b)) (total-some maxLetters a (λ b. eqb a b) letter one) in
       chain-marked st sound (spreadBy (calls st) mostCalls start) still (r .via) a b
-      (mark-stays st a letter mostCalls) (r .chain)
+      (flag-stays st a letter mostCalls) (r .chain)
 
 -- what is reached is a letter
 pub reached-letter : (st : Store) (a b : ℕ) → isFlagged (reachedBy st a) b ≡ true → b < maxLetters

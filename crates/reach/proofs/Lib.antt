@@ -1,4 +1,4 @@
-pub mod Marks
+pub mod Flags
 pub mod Rounds
 pub mod Calls
 pub mod Answers

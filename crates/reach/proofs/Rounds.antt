@@ -15,8 +15,8 @@ use Rattle.language.proofs.Tests.{both-true, first-true, second-true}
 use Rattle.book.specs.Store.{Store}
 use Rattle.marks.specs.Formats.{ticked}
 use Rattle.reach.specs.Reach.{calledBy, flagsBy, isFlagged, anyOf, eachOf, spread, spreadBy, mostCalls, readable}
-use Rattle.reach.specs.Rounds.{rows, inArray, Marks, withRow, ReadsAll}
-use Rattle.reach.proofs.Marks.{flagged-by, marks-same, marks-of}
+use Rattle.reach.specs.Rounds.{rows, inArray, Flags, withRow, ReadsAll}
+use Rattle.reach.proofs.Flags.{flagged-by, flags-same, flags-of}
 
 -- ── counts ──────────────────────────────────────────────────────────────────────────────────────
 
@@ -105,8 +105,8 @@ or-assoc false v w = refl
 abbrev pub spreadTo : ℕ → (ℕ → ℕ → Bool) → List ℕ → List ℕ
 spreadTo n f m = flagsBy maxLetters (λ b. isFlagged m b || anyOf n (λ a. isFlagged m a && f a b))
 
-pub spread-none : (f : ℕ → ℕ → Bool) (m : List ℕ) → Marks m → m ≡ spreadTo 0 f m
-spread-none f m h = h ∙ marks-same maxLetters (isFlagged m) _ (λ b _. or-false (isFlagged m b))
+pub spread-none : (f : ℕ → ℕ → Bool) (m : List ℕ) → Flags m → m ≡ spreadTo 0 f m
+spread-none f m h = h ∙ flags-same maxLetters (isFlagged m) _ (λ b _. or-false (isFlagged m b))
 
 pub spread-more : (c : List ℕ) (m next : List ℕ) (a : ℕ) → next ≡ spreadTo a (inArray c) m
     → cond (isFlagged m a) (withRow c (a * maxLetters) next) next ≡ spreadTo (a + 1) (inArray c) m
@@ -116,25 +116,25 @@ spread-more c m next a e = go (isFlagged m a) refl ∙ ap (λ n. spreadTo n (inA
     go : (u : Bool) → isFlagged m a ≡ u → cond u (withRow c (a * maxLetters) next) next ≡ spreadTo (suc a) (inArray c) m
     go true q =
         ap (λ x. withRow c (a * maxLetters) x) e
-        ∙ marks-same maxLetters _ _ (λ b h.
+        ∙ flags-same maxLetters _ _ (λ b h.
         ap (λ x. x || inArray c a b) (flagged-by (λ b. isFlagged m b || anyOf a (λ k. isFlagged m k && inArray c k b)) b h)
         ∙ or-assoc (isFlagged m b) (anyOf a (λ k. isFlagged m k && inArray c k b)) (inArray c a b)
         ∙ ap (λ x. isFlagged m b || (anyOf a (λ k. isFlagged m k && inArray c k b) || (x && inArray c a b))) (sym q))
     go false q =
-        e ∙ marks-same maxLetters _ _ (λ b h.
+        e ∙ flags-same maxLetters _ _ (λ b h.
         ap (λ x. isFlagged m b || x) (or-false (anyOf a (λ k. isFlagged m k && inArray c k b)))
         ∙ ap (λ x. isFlagged m b || (anyOf a (λ k. isFlagged m k && inArray c k b) || (x && inArray c a b))) (sym q))
 
 -- ── round after round ───────────────────────────────────────────────────────────────────────────
 
-pub spread-marks : (f : ℕ → ℕ → Bool) (m : List ℕ) → Marks (spread f m)
+pub spread-flags : (f : ℕ → ℕ → Bool) (m : List ℕ) → Flags (spread f m)
 unfolding spread
-spread-marks f m = marks-of (λ b. isFlagged m b || anyOf maxLetters (λ a. isFlagged m a && f a b))
+spread-flags f m = flags-of (λ b. isFlagged m b || anyOf maxLetters (λ a. isFlagged m a && f a b))
 
-pub rounds-marks : (f : ℕ → ℕ → Bool) (n : ℕ) (m : List ℕ) → Marks m → Marks (spreadBy f n m)
+pub rounds-flags : (f : ℕ → ℕ → Bool) (n : ℕ) (m : List ℕ) → Flags m → Flags (spreadBy f n m)
 unfolding spreadBy
-rounds-marks f zero m h = h
-rounds-marks f (suc n) m h = spread-marks f (spreadBy f n m)
+rounds-flags f zero m h = h
+rounds-flags f (suc n) m h = spread-flags f (spreadBy f n m)
 
 -- from marks that a round leaves as they are
 pub rounds-still : (f : ℕ → ℕ → Bool) (n k : ℕ) (m : List ℕ) → spread f (spreadBy f n m) ≡ spreadBy f n m → n ≤ k → spreadBy f k m ≡ spreadBy f n m
@@ -148,13 +148,13 @@ rounds-still f n (suc k) m e h = go (eqb (suc k) n) refl (λ j. rounds-still f n
 
 -- n rounds are done
 pub record Following (f : ℕ → ℕ → Bool) (start m : List ℕ) (n : ℕ) : Type 0 where
-  pub proper : Marks start
+  pub proper : Flags start
   pub few : n ≤ mostCalls
   pub reached : m ≡ spreadBy f n start
 
 module _ (f : ℕ → ℕ → Bool) (start m : List ℕ) (n : ℕ) (g : Following f start m n) where
-  pub following-marks : Marks m
-  following-marks = subst Marks (sym (g .reached)) (rounds-marks f n start (g .proper))
+  pub following-flags : Flags m
+  following-flags = subst Flags (sym (g .reached)) (rounds-flags f n start (g .proper))
 
   pub following-more : (next : List ℕ) → n < mostCalls → next ≡ spread f m → Following f start next (n + 1)
   unfolding spreadBy
@@ -177,7 +177,7 @@ pub record Spreading (c m x : List ℕ) (a : ℕ) : Type 0 where
   pub few : a ≤ maxLetters
   pub next : x ≡ spreadTo a (inArray c) m
 
-pub spreading-none : (c m : List ℕ) → Marks m → Spreading c m m 0
+pub spreading-none : (c m : List ℕ) → Flags m → Spreading c m m 0
 spreading-none c m h = record { few = omega arith; next = spread-none (inArray c) m h }
 
 pub spreading-more : (c m next more : List ℕ) (a : ℕ) → Spreading c m next a → a < maxLetters

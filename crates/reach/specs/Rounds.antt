@@ -50,8 +50,8 @@ pub record ReadsAll (st : Store) (r : Bool) (after : List ℕ) : Type 0 where
 -- ── marks ───────────────────────────────────────────────────────────────────────────────────────
 
 -- a mark for each letter, 0 or 1
-abbrev pub Marks : List ℕ → Type 0
-Marks m = m ≡ flagsBy maxLetters (isFlagged m)
+abbrev pub Flags : List ℕ → Type 0
+Flags m = m ≡ flagsBy maxLetters (isFlagged m)
 
 -- one of two marks, or both
 abbrev pub eitherFlag : ℕ → ℕ → ℕ

@@ -5,7 +5,7 @@ ghost use lib.Dec.{eqb};
 ghost use Rattle.book.specs.Store.{storeOf};
 ghost use Rattle.marks.specs.Formats.{Row};
 ghost use Rattle.reach.specs.Reach.{spread, spreadBy, mostCalls, missingOf, reports, reach};
-ghost use Rattle.reach.specs.Rounds.{tables, inArray, Counted, ReadsOne, Clear, ReadsAll, Marks, eitherFlag, withRow, missingFlag};
+ghost use Rattle.reach.specs.Rounds.{tables, inArray, Counted, ReadsOne, Clear, ReadsAll, Flags, eitherFlag, withRow, missingFlag};
 use language::Ending;
 use language::LETTERS;
 use language::STORE_CELLS;
@@ -50,9 +50,9 @@ fn read_all(cells: &[i32; STORE_CELLS], used: &[usize; LETTERS], calls: &mut [u8
     true
 }
 
-// ── marks ───────────────────────────────────────────────────────────────────────────────────────
+// ── flags ───────────────────────────────────────────────────────────────────────────────────────
 
-// One of two marks, or both.
+// One of two flags, or both.
 fn either(x: u8, y: u8) -> u8
     ensures { λ r. ⌜ r ≡ eitherFlag x y ⌝ }
 {
@@ -62,47 +62,47 @@ fn either(x: u8, y: u8) -> u8
     if y == 1 { 1 } else { 0 }
 }
 
-// What is marked, and what the row of the calls that starts at `from` has.
-fn with_row(calls: &[u8; CALLS], from: usize, marks: [u8; LETTERS]) -> [u8; LETTERS]
+// What is flagged, and what the row of the calls that starts at `from` has.
+fn with_row(calls: &[u8; CALLS], from: usize, flags: [u8; LETTERS]) -> [u8; LETTERS]
     requires { ⌜ Row from ⌝ }
-    ensures { λ r. ⌜ r ≡ withRow (now (calls .entry)) from marks ⌝ }
+    ensures { λ r. ⌜ r ≡ withRow (now (calls .entry)) from flags ⌝ }
 {
-    let mut next = marks;
+    let mut next = flags;
     let mut b: usize = 0;
     while b < LETTERS {
-        next[b] = either(marks[b], calls[from + b]);
+        next[b] = either(flags[b], calls[from + b]);
         b += 1;
     }
     next
 }
 
-// The same where the letter whose row it is has a mark, else what is marked.
-fn with_row_if(calls: &[u8; CALLS], from: usize, mark: u8, marks: [u8; LETTERS]) -> [u8; LETTERS]
+// The same where the letter whose row it is has a flag, else what is flagged.
+fn with_row_if(calls: &[u8; CALLS], from: usize, flag: u8, flags: [u8; LETTERS]) -> [u8; LETTERS]
     requires { ⌜ Row from ⌝ }
-    ensures { λ r. ⌜ r ≡ cond (eqb mark 1) (withRow (now (calls .entry)) from marks) marks ⌝ }
+    ensures { λ r. ⌜ r ≡ cond (eqb flag 1) (withRow (now (calls .entry)) from flags) flags ⌝ }
 {
-    if mark == 1 {
-        return with_row(calls, from, marks);
+    if flag == 1 {
+        return with_row(calls, from, flags);
     }
-    marks
+    flags
 }
 
-// A call further: what is marked, and what a marked letter calls.
-fn spread(calls: &[u8; CALLS], marks: [u8; LETTERS]) -> [u8; LETTERS]
-    requires { ⌜ Marks marks ⌝ }
-    ensures { λ r. ⌜ r ≡ spread (inArray (now (calls .entry))) marks ⌝ }
+// A call further: what is flagged, and what a flagged letter calls.
+fn spread(calls: &[u8; CALLS], flags: [u8; LETTERS]) -> [u8; LETTERS]
+    requires { ⌜ Flags flags ⌝ }
+    ensures { λ r. ⌜ r ≡ spread (inArray (now (calls .entry))) flags ⌝ }
 {
-    let mut next = marks;
+    let mut next = flags;
     let mut a: usize = 0;
     while a < LETTERS {
-        let more = with_row_if(calls, a * LETTERS, marks[a], next);
+        let more = with_row_if(calls, a * LETTERS, flags[a], next);
         next = more;
         a += 1;
     }
     next
 }
 
-// Two arrays of marks are the same.
+// Two arrays of flags are the same.
 fn same(x: [u8; LETTERS], y: [u8; LETTERS]) -> bool
     ensures { λ r. ⌜ (r ≡ true → x ≡ y) ⌝ }
 {
@@ -116,12 +116,12 @@ fn same(x: [u8; LETTERS], y: [u8; LETTERS]) -> bool
     true
 }
 
-// All that is reached from what is marked.
-fn follow(calls: &[u8; CALLS], marks: [u8; LETTERS]) -> [u8; LETTERS]
-    requires { ⌜ Marks marks ⌝ }
-    ensures { λ r. ⌜ r ≡ spreadBy (inArray (now (calls .entry))) mostCalls marks ⌝ }
+// All that is reached from what is flagged.
+fn follow(calls: &[u8; CALLS], flags: [u8; LETTERS]) -> [u8; LETTERS]
+    requires { ⌜ Flags flags ⌝ }
+    ensures { λ r. ⌜ r ≡ spreadBy (inArray (now (calls .entry))) mostCalls flags ⌝ }
 {
-    let mut reached = marks;
+    let mut reached = flags;
     let mut n: usize = 0;
     while n < MOST_CALLS {
         let next = spread(calls, reached);
@@ -134,7 +134,7 @@ fn follow(calls: &[u8; CALLS], marks: [u8; LETTERS]) -> [u8; LETTERS]
     reached
 }
 
-// A mark of a letter without a text.
+// A flag of a letter without a text.
 fn missing_flag(x: u8, end: usize) -> u8
     ensures { λ r. ⌜ r ≡ missingFlag x end ⌝ }
 {
@@ -144,14 +144,14 @@ fn missing_flag(x: u8, end: usize) -> u8
     if end == 0 { 1 } else { 0 }
 }
 
-// The marked letters that have no text.
-fn without_text(used: &[usize; LETTERS], marks: [u8; LETTERS]) -> [u8; LETTERS]
-    ensures { λ r. ⌜ r ≡ missingOf (now (used .entry)) marks ⌝ }
+// The flagged letters that have no text.
+fn without_text(used: &[usize; LETTERS], flags: [u8; LETTERS]) -> [u8; LETTERS]
+    ensures { λ r. ⌜ r ≡ missingOf (now (used .entry)) flags ⌝ }
 {
-    let mut missing = marks;
+    let mut missing = flags;
     let mut b: usize = 0;
     while b < LETTERS {
-        missing[b] = missing_flag(marks[b], used[b]);
+        missing[b] = missing_flag(flags[b], used[b]);
         b += 1;
     }
     missing
@@ -184,8 +184,8 @@ pub fn reach(
     }
     let mut start = [0u8; LETTERS];
     start[a] = 1;
-    let marks = follow(&calls, start);
-    *reached = marks;
-    *missing = without_text(used, marks);
+    let flags = follow(&calls, start);
+    *reached = flags;
+    *missing = without_text(used, flags);
     0
 }

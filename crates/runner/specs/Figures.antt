@@ -1,13 +1,16 @@
 -- A run over lent arrays, as C asks for it: its report as a number and an array of figures.
+use mathlib.Core.Path.{_≡_}
 use mathlib.Core.Bool.{Bool, cond}
 use mathlib.Core.List.{List, [], _∷_}
 use Prim.Native.Nat.{ℕ}
 use lib.IntN.{ℤ}
 use lib.ListN.{getD}
-use lib.Dec.{eqb}
+use lib.Dec.{ltb, eqb}
 use Rattle.book.specs.declared.Report.{Report}
 use Rattle.book.specs.Replies.{Answered}
 use Rattle.book.specs.Store.{Store}
+use Rattle.operands.specs.declared.Machine.{Machine}
+use Rattle.interpreter.specs.Runs.{reportFrom}
 
 -- a truth as a number
 abbrev pub truthFigure : Bool → ℕ
@@ -46,3 +49,10 @@ returned x =
       variables = x .reply .variables;
       figures = figuresOf (x .reply .report);
     }
+
+-- ── inside ──────────────────────────────────────────────────────────────────────────────────────
+
+-- The loop left the machine's numbers m and the variables v after an allowance of n; b are the variables before the run. r is reported, and w are kept.
+pub record Ended (n : ℕ) (m : Machine) (b v : List ℤ) (r : Report) (w : List ℤ) : Type 0 where
+  pub report : r ≡ reportFrom n m
+  pub variables : w ≡ cond (ltb 2 (m .state)) b v

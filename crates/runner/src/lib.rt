@@ -2,7 +2,8 @@
 ghost use mathlib.Core.Path.{_≡_};
 ghost use Rattle.book.specs.Calls.{running};
 ghost use Rattle.book.specs.Store.{storeOf, storeCall, answered};
-ghost use Rattle.runner.specs.Figures.{truthFigure, returns, returned};
+ghost use Rattle.interpreter.specs.Runs.{Over};
+ghost use Rattle.runner.specs.Figures.{Ended, truthFigure, returns, returned};
 use book::Report;
 use interpreter::cycle::drive;
 use interpreter::cycle::report;
@@ -13,6 +14,24 @@ use operands::Machine;
 
 // The figures of a run beside its number.
 pub const FIGURES: usize = 5;
+
+// What a run comes to once the loop is over. "Only a finished run changes variables; any other leaves them as before it."
+fn ended(
+    m: Machine,
+    allowance: u32,
+    before: [i32; VARIABLES],
+    vars: &mut [i32; VARIABLES],
+) -> Report
+    requires { ⌜ Over allowance m ⌝ }
+    ensures { λ r. ⌜ Ended allowance m before (now (vars .entry)) r (now (vars .exit)) ⌝ }
+{
+    let r = report(m, allowance);
+    if m.state <= Machine::FALSE {
+        return r;
+    }
+    *vars = before;
+    r
+}
 
 // A run of any store by a caller with this role. The cells of letter a are those from 250 a on. The role is written nowhere.
 pub fn run(
@@ -52,13 +71,7 @@ pub fn run(
         list,
         output,
     );
-    let r = report(m, allowance);
-    if m.state <= Machine::FALSE {
-        return r;
-    }
-    // "Only a finished run changes variables; any other leaves them as before it."
-    *vars = before;
-    r
+    ended(m, allowance, before, vars)
 }
 
 // ── for C ───────────────────────────────────────────────────────────────────────────────────────
@@ -70,7 +83,7 @@ fn truth_figure(t: bool) -> usize
     if t { 1 } else { 0 }
 }
 
-// The same run for C: the number, and truth, steps, list height, inputs taken and output length beside it.
+// The same run for C, with a call of the loop of its own, which keeps the loop a function (docs/PERFORMANCE.md): the number, and truth, steps, list height, inputs taken and output length beside it.
 pub fn run_into(
     cells: &[i32; STORE_CELLS],
     used: &[usize; LETTERS],
@@ -88,18 +101,29 @@ pub fn run_into(
         ≡ returned (storeCall (storeOf (now (cells .entry)) (now (used .entry)) (now (permissions .entry)) (now (vars .entry)))
         (running letter role allowance (now (inputs .entry)) (now (list .entry)) (now (output .entry)))) ⌝ }
 {
-    let r = run(
+    let before = *vars;
+    let counts = *used;
+    validation::all_there(counts);
+    let number = admission::run(used, permissions, vars, letter, role, inputs, list);
+    if number != 0 {
+        *figures = [0usize; FIGURES];
+        return number;
+    }
+    let guards = *permissions;
+    let k = admission::index(letter);
+    let m = drive(
         cells,
-        used,
-        permissions,
-        vars,
-        letter,
+        &counts,
+        &guards,
         role,
-        allowance,
         inputs,
+        k,
+        allowance as usize,
+        vars,
         list,
         output,
     );
+    let r = ended(m, allowance, before, vars);
     *figures = [
         truth_figure(r.truth),
         r.steps as usize,

@@ -4,7 +4,7 @@ use Prim.Native.Nat.{_-_}
 use native.Mathlib.Omega.{arith}
 use Rattle.reach.specs.Reach.{mostCalls, spreadBy}
 use Rattle.reach.specs.Rounds.{inArray}
-use Rattle.reach.proofs.Rounds.{Following, following-marks, following-more, following-still, following-done}
+use Rattle.reach.proofs.Rounds.{Following, following-flags, following-more, following-still, following-done}
 use Rattle.reach.proofs.follow.Statement.{statement}
 use Rattle.reach.proofs.follow.Tie as tie
 
@@ -19,7 +19,7 @@ unfolding spreadBy
 loop-holds c = record { proper = c .pre; few = omega arith; reached = refl }
 
 spread-requires : tie.Need-spread-requires Inv-loop μ-loop
-spread-requires c κs = following-marks _ _ _ _ (c .before .loop .inv)
+spread-requires c κs = following-flags _ _ _ _ (c .before .loop .inv)
 
 same-requires : tie.Need-same-requires Inv-loop μ-loop
 same-requires c κs = tt

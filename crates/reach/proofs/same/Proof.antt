@@ -7,7 +7,7 @@ use lib.ListN.{getD}
 use lib.Seq.{ext-getD}
 use borrow.Author.Needs.{needs}
 use Rattle.language.specs.Limits.{maxLetters}
-use Rattle.reach.proofs.Marks.{same-more}
+use Rattle.reach.proofs.Flags.{same-more}
 use Rattle.reach.proofs.same.Statement.{statement}
 use Rattle.reach.proofs.same.Tie as tie
 

@@ -6,7 +6,7 @@ use borrow.Author.Needs.{needs}
 use Rattle.language.specs.Limits.{maxLetters}
 use Rattle.reach.specs.Reach.{isFlagged}
 use Rattle.reach.specs.Rounds.{withRow}
-use Rattle.reach.proofs.Marks.{Flagging, marking-none, marking-more, marking-done}
+use Rattle.reach.proofs.Flags.{Flagging, flagging-none, flagging-more, flagging-done}
 use Rattle.reach.proofs.with_row.Statement.{statement}
 use Rattle.reach.proofs.with_row.Tie as tie
 
@@ -17,7 +17,7 @@ abbrev μ-loop : tie.MeasureT-loop
 μ-loop calls from marks next₀ b₀ next b = maxLetters - b
 
 loop-holds : tie.Need-loop-holds Inv-loop μ-loop
-loop-holds c = marking-none _ _ (search needs)
+loop-holds c = flagging-none _ _ (search needs)
 
 array-read-either : tie.Need-array-read-either Inv-loop μ-loop
 array-read-either c = omega arith
@@ -38,11 +38,11 @@ loop-less : tie.Need-loop-less Inv-loop μ-loop
 loop-less c = omega arith
 
 loop-again : tie.Need-loop-again Inv-loop μ-loop
-loop-again c = marking-more _ _ _ _ (c .before .before .before .loop .inv) (omega arith) (c .either .ensures)
+loop-again c = flagging-more _ _ _ _ (c .before .before .before .loop .inv) (omega arith) (c .either .ensures)
 
 returns : tie.Need-returns Inv-loop μ-loop
 unfolding withRow
-returns c = marking-done _ _ _ (c .before .loop .inv) (omega arith)
+returns c = flagging-done _ _ _ (c .before .loop .inv) (omega arith)
 
 pub with-row-spec : {M : Type 1} → statement M
 with-row-spec =

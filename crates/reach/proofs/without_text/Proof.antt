@@ -10,7 +10,7 @@ use borrow.Author.Needs.{needs}
 use Rattle.language.specs.Tables.{standsAt}
 use Rattle.language.specs.Limits.{maxLetters}
 use Rattle.reach.specs.Reach.{isFlagged, missingOf}
-use Rattle.reach.proofs.Marks.{Flagging, marking-none, marking-more, marking-done, marks-same, not-not}
+use Rattle.reach.proofs.Flags.{Flagging, flagging-none, flagging-more, flagging-done, flags-same, not-not}
 use Rattle.reach.proofs.without_text.Statement.{statement}
 use Rattle.reach.proofs.without_text.Tie as tie
 
@@ -21,7 +21,7 @@ abbrev μ-loop : tie.MeasureT-loop
 μ-loop used marks missing₀ b₀ missing b = maxLetters - b
 
 loop-holds : tie.Need-loop-holds Inv-loop μ-loop
-loop-holds c = marking-none _ _ (search needs)
+loop-holds c = flagging-none _ _ (search needs)
 
 array-read-missing-flag : tie.Need-array-read-missing-flag Inv-loop μ-loop
 array-read-missing-flag c = omega arith
@@ -39,12 +39,12 @@ loop-less : tie.Need-loop-less Inv-loop μ-loop
 loop-less c = omega arith
 
 loop-again : tie.Need-loop-again Inv-loop μ-loop
-loop-again c = marking-more _ _ _ _ (c .before .before .before .loop .inv) (omega arith) (c .missing-flag .ensures)
+loop-again c = flagging-more _ _ _ _ (c .before .before .before .loop .inv) (omega arith) (c .missing-flag .ensures)
 
 returns : tie.Need-returns Inv-loop μ-loop
 unfolding missingOf
-returns c = marking-done _ _ _ (c .before .loop .inv) (omega arith)
-    ∙ marks-same maxLetters (λ j. isFlagged (c .before .before .args .t2) j && eqb (getD (now (c .before .before .args .used)) j 0) 0) (λ j. isFlagged (c .before .before .args .t2) j && not (standsAt (now (c .before .before .args .used)) j))
+returns c = flagging-done _ _ _ (c .before .loop .inv) (omega arith)
+    ∙ flags-same maxLetters (λ j. isFlagged (c .before .before .args .t2) j && eqb (getD (now (c .before .before .args .used)) j 0) 0) (λ j. isFlagged (c .before .before .args .t2) j && not (standsAt (now (c .before .before .args .used)) j))
     (λ b _. ap (λ x. isFlagged (c .before .before .args .t2) b && x) (not-not (eqb (getD (now (c .before .before .args .used)) b 0) 0)))
 
 pub without-text-spec : {M : Type 1} → statement M

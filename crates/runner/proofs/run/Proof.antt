@@ -4,7 +4,6 @@ use Prim.Native.Nat.{ℕ}
 use mathlib.Core.Bool.{true}
 use native.Mathlib.Omega.{arith}
 use denote.Ref.{now}
-use borrow.Author.Tests.{lt-ltb, le-ltb}
 use borrow.Author.Needs.{needs}
 use Rattle.language.specs.Letters.{isLetter}
 use Rattle.language.proofs.Letters.{letter-lt}
@@ -65,23 +64,17 @@ drive-requires c κs =
 abbrev else : tie.After-drive → tie.Else1
 else c = c .before .before .before .before .before .before .before .before
 
+ended-requires : tie.Need-ended-requires
+ended-requires c κs = c .before .before .before .before .drive .ensures .over
+
 returns-2 : tie.Need-returns-2
 returns-2 c =
-    let d = c .before .before .before .before .before .before in
+    let d = c .before .before .before .before .before in
     let t = else d .before in
-    let e = le-ltb 2 (d .drive .result .state) (c .if2 .taken) in
     runs-on (given (entry t)) (asks (entry t)) _ (t .run .ensures (now (entry t .args .cells))) (else d .if1 .left) _ _ _ _ _ (d .before .before .before .before .before .before .index .ensures)
-    (rw (c .before .before .report .ensures, e) (rw e at (d .drive .ensures .reply (now (entry t .args .vars)))))
-
-returns-3 : tie.Need-returns-3
-returns-3 c =
-    let d = c .before .before .before .before .before .before in
-    let t = else d .before in
-    let e = lt-ltb 2 (d .drive .result .state) (c .if2 .left) in
-    runs-on (given (entry t)) (asks (entry t)) _ (t .run .ensures (now (entry t .args .cells))) (else d .if1 .left) _ _ _ _ _ (d .before .before .before .before .before .before .index .ensures)
-    (rw (c .before .before .report .ensures, e) (rw e at (d .drive .ensures .reply (now (entry t .args .vars)))))
+    (rw (c .ended .ensures .report, c .ended .ensures .variables) (d .drive .ensures .reply (now (entry t .args .vars))))
 
 pub run-spec : {M : Type 1} → statement M
 run-spec =
     tie.close (tie.spec (λ c κs. search needs) (λ c κs. search needs) (λ c κs. search needs) (λ c. search needs) returns index-requires drive-requires
-    (λ c κs. search needs) (λ c. search needs) (λ c. search needs) returns-2 (λ c. search needs) (λ c. search needs) returns-3)
+    ended-requires (λ c. search needs) (λ c. search needs) returns-2)

@@ -11,25 +11,25 @@ use lib.Dec.{eqb, ltb}
 use borrow.Author.Tests.{eqb-true, eqb-false, ltb-true, ltb-false}
 use Rattle.language.specs.Limits.{maxLetters}
 use Rattle.reach.specs.Reach.{flagsBy, isFlagged}
-use Rattle.reach.specs.Rounds.{Marks}
+use Rattle.reach.specs.Rounds.{Flags}
 
--- a test as a mark
-abbrev pub mark : Bool → ℕ
-mark u = cond u 1 0
+-- a test as a flag
+abbrev pub flag : Bool → ℕ
+flag u = cond u 1 0
 
 -- and back
-pub mark-back : (u : Bool) → eqb (mark u) 1 ≡ u
-mark-back true = refl
-mark-back false = refl
+pub flag-back : (u : Bool) → eqb (flag u) 1 ≡ u
+flag-back true = refl
+flag-back false = refl
 
-pub length-marks : (n : ℕ) (p : ℕ → Bool) → length (flagsBy n p) ≡ n
-length-marks zero p = refl
-length-marks (suc n) p = ap suc (length-marks n (λ b. p (suc b)))
+pub length-flags : (n : ℕ) (p : ℕ → Bool) → length (flagsBy n p) ≡ n
+length-flags zero p = refl
+length-flags (suc n) p = ap suc (length-flags n (λ b. p (suc b)))
 
-pub getD-marks : (n : ℕ) (p : ℕ → Bool) (b : ℕ) → b < n → getD (flagsBy n p) b 0 ≡ mark (p b)
-getD-marks zero p b h = absurd (omega arith)
-getD-marks (suc n) p zero h = refl
-getD-marks (suc n) p (suc b) h = getD-marks n (λ b. p (suc b)) b (le-of-suc-le-suc h)
+pub getD-flags : (n : ℕ) (p : ℕ → Bool) (b : ℕ) → b < n → getD (flagsBy n p) b 0 ≡ flag (p b)
+getD-flags zero p b h = absurd (omega arith)
+getD-flags (suc n) p zero h = refl
+getD-flags (suc n) p (suc b) h = getD-flags n (λ b. p (suc b)) b (le-of-suc-le-suc h)
 
 past-marks : (n : ℕ) (p : ℕ → Bool) (b : ℕ) → n ≤ b → getD (flagsBy n p) b 0 ≡ 0
 past-marks zero p b h = refl
@@ -38,7 +38,7 @@ past-marks (suc n) p (suc b) h = past-marks n (λ b. p (suc b)) b (le-of-suc-le-
 
 -- a letter is marked where the test holds of it
 pub flagged-by : (p : ℕ → Bool) (b : ℕ) → b < maxLetters → isFlagged (flagsBy maxLetters p) b ≡ p b
-flagged-by p b h = ap (λ x. eqb x 1) (getD-marks maxLetters p b h) ∙ mark-back (p b)
+flagged-by p b h = ap (λ x. eqb x 1) (getD-flags maxLetters p b h) ∙ flag-back (p b)
 
 -- nothing else is
 pub flagged-letter : (p : ℕ → Bool) (b : ℕ) → isFlagged (flagsBy maxLetters p) b ≡ true → b < maxLetters
@@ -49,14 +49,14 @@ flagged-letter p b e = go (ltb b maxLetters) refl
     go false k =
         absurd (false≢true (sym (ap (λ x. eqb x 1) (past-marks maxLetters p b (ltb-false b maxLetters k))) ∙ e))
 
-pub marks-same : (n : ℕ) (p q : ℕ → Bool) → ((b : ℕ) → b < n → p b ≡ q b) → flagsBy n p ≡ flagsBy n q
-marks-same n p q h =
-    ext-getD 0 (flagsBy n p) (flagsBy n q) (length-marks n p ∙ sym (length-marks n q))
-    (λ b k. let l : b < n = subst (λ m. b < m) (length-marks n p) k in getD-marks n p b l ∙ ap mark (h b l) ∙ sym (getD-marks n q b l))
+pub flags-same : (n : ℕ) (p q : ℕ → Bool) → ((b : ℕ) → b < n → p b ≡ q b) → flagsBy n p ≡ flagsBy n q
+flags-same n p q h =
+    ext-getD 0 (flagsBy n p) (flagsBy n q) (length-flags n p ∙ sym (length-flags n q))
+    (λ b k. let l : b < n = subst (λ m. b < m) (length-flags n p) k in getD-flags n p b l ∙ ap flag (h b l) ∙ sym (getD-flags n q b l))
 
 -- marks are those of what they mark
-pub marks-of : (p : ℕ → Bool) → Marks (flagsBy maxLetters p)
-marks-of p = marks-same maxLetters p (isFlagged (flagsBy maxLetters p)) (λ b h. sym (flagged-by p b h))
+pub flags-of : (p : ℕ → Bool) → Flags (flagsBy maxLetters p)
+flags-of p = flags-same maxLetters p (isFlagged (flagsBy maxLetters p)) (λ b h. sym (flagged-by p b h))
 
 -- ── marks that a loop writes one by one ─────────────────────────────────────────────────────────
 
@@ -64,31 +64,31 @@ marks-of p = marks-same maxLetters p (isFlagged (flagsBy maxLetters p)) (λ b h.
 pub record Flagging (p : ℕ → Bool) (m : List ℕ) (i : ℕ) : Type 0 where
   pub size : length m ≡ maxLetters
   pub few : i ≤ maxLetters
-  pub done : (b : ℕ) → b < i → getD m b 0 ≡ mark (p b)
+  pub done : (b : ℕ) → b < i → getD m b 0 ≡ flag (p b)
 
-pub marking-none : (p : ℕ → Bool) (m : List ℕ) → length m ≡ maxLetters → Flagging p m 0
-marking-none p m e = record { size = e; few = omega arith; done = λ b h. absurd (omega arith) }
+pub flagging-none : (p : ℕ → Bool) (m : List ℕ) → length m ≡ maxLetters → Flagging p m 0
+flagging-none p m e = record { size = e; few = omega arith; done = λ b h. absurd (omega arith) }
 
-pub marking-more : (p : ℕ → Bool) (m : List ℕ) (i v : ℕ) → Flagging p m i → i < maxLetters → v ≡ mark (p i) → Flagging p (set m i v) (i + 1)
-marking-more p m i v k h e =
+pub flagging-more : (p : ℕ → Bool) (m : List ℕ) (i v : ℕ) → Flagging p m i → i < maxLetters → v ≡ flag (p i) → Flagging p (set m i v) (i + 1)
+flagging-more p m i v k h e =
     record {
       size = length-set m i v ∙ k .size;
       few = omega arith;
       done = λ b l. go b l (eqb b i) refl;
     }
   where
-    go : (b : ℕ) → b < i + 1 → (u : Bool) → eqb b i ≡ u → getD (set m i v) b 0 ≡ mark (p b)
+    go : (b : ℕ) → b < i + 1 → (u : Bool) → eqb b i ≡ u → getD (set m i v) b 0 ≡ flag (p b)
     go b l true q =
         let z : b ≡ i = eqb-true b i q in
-        subst (λ x. getD (set m i v) x 0 ≡ mark (p x)) (sym z) (getD-set-same m i v 0 (omega (arith, k .size)) ∙ e)
+        subst (λ x. getD (set m i v) x 0 ≡ flag (p x)) (sym z) (getD-set-same m i v 0 (omega (arith, k .size)) ∙ e)
     go b l false q =
         let ne = eqb-false b i q in
         getD-set-other m i b v 0 ne ∙ k .done b (omega (arith, ne))
 
-pub marking-done : (p : ℕ → Bool) (m : List ℕ) (i : ℕ) → Flagging p m i → maxLetters ≤ i → m ≡ flagsBy maxLetters p
-marking-done p m i k h =
-    ext-getD 0 m (flagsBy maxLetters p) (k .size ∙ sym (length-marks maxLetters p))
-    (λ b l. let j : b < maxLetters = subst (λ n. b < n) (k .size) l in k .done b (omega (arith, k .few)) ∙ sym (getD-marks maxLetters p b j))
+pub flagging-done : (p : ℕ → Bool) (m : List ℕ) (i : ℕ) → Flagging p m i → maxLetters ≤ i → m ≡ flagsBy maxLetters p
+flagging-done p m i k h =
+    ext-getD 0 m (flagsBy maxLetters p) (k .size ∙ sym (length-flags maxLetters p))
+    (λ b l. let j : b < maxLetters = subst (λ n. b < n) (k .size) l in k .done b (omega (arith, k .few)) ∙ sym (getD-flags maxLetters p b j))
 
 -- two lists that are the same up to b, and at b
 pub same-more : (x y : List ℕ) (b : ℕ) → ((j : ℕ) → j < b → getD x j 0 ≡ getD y j 0) → getD x b 0 ≡ getD y b 0
