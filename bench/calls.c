@@ -76,8 +76,8 @@ static int refused_alike(void) {
 /* A letter's mark, given and taken, and a call of a steward letter: the same answers, for a cashier 34. */
 static int marked_alike(void) {
     int good = 1;
-    for (uint8_t mark = REC_OPEN; mark <= REC_STEWARDS; mark++)
-        for (uint8_t role = REC_CASHIER; role <= REC_STEWARD; role++) {
+    for (uint32_t mark = REC_OPEN; mark <= REC_STEWARDS; mark++)
+        for (uint32_t role = REC_CASHIER; role <= REC_STEWARD; role++) {
             begin();
             for (int who = 0; who < 2; who++) {
                 struct side *s = &sides[who];

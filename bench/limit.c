@@ -185,7 +185,7 @@ void limit_translate(const rec_store *store) {
         if (store->used[letter] != 0) translate(letter, store->cells + letter * REC_CELLS - 1, (int)store->used[letter]);
 }
 
-int32_t limit_run(rec_store *store, uint8_t letter, uint8_t role, uint32_t allowance, const int32_t *inputs, size_t count, int32_t *list,
+int32_t limit_run(rec_store *store, uint8_t letter, uint32_t role, uint32_t allowance, const int32_t *inputs, size_t count, int32_t *list,
                   size_t places, uint8_t *output, size_t room, rec_report *report) {
     (void)role, (void)count, (void)places, (void)room;
     memset(counts, 0, counted * sizeof *counts);

@@ -8,7 +8,7 @@ struct frame { int letter, next, exit; };
 
 void plain_fresh(rec_store *store) { memset(store, 0, sizeof *store); }
 
-int32_t plain_define(rec_store *store, uint8_t letter, uint8_t mark, const uint8_t *text, size_t length) {
+int32_t plain_define(rec_store *store, uint8_t letter, uint32_t mark, const uint8_t *text, size_t length) {
     size_t used;
     if (!sound(store)) return REC_BAD_STORE;
     if (letter < 'a' || 'z' < letter) return REC_NO_SUCH_LETTER;
@@ -218,7 +218,7 @@ out:
     return end;
 }
 
-static int32_t refusal(const rec_store *store, uint8_t letter, uint8_t role, const int32_t *inputs, size_t count, size_t places) {
+static int32_t refusal(const rec_store *store, uint8_t letter, uint32_t role, const int32_t *inputs, size_t count, size_t places) {
     if (!sound(store)) return REC_BAD_STORE;
     if (letter < 'a' || 'z' < letter) return REC_NO_SUCH_LETTER;
     if (role > REC_STEWARD) return REC_BAD_MARK;
@@ -229,7 +229,7 @@ static int32_t refusal(const rec_store *store, uint8_t letter, uint8_t role, con
     return places == REC_LIST ? 0 : REC_BAD_LIST;
 }
 
-int32_t plain_run(rec_store *store, uint8_t letter, uint8_t role, uint32_t allowance, const int32_t *inputs, size_t count, int32_t *list,
+int32_t plain_run(rec_store *store, uint8_t letter, uint32_t role, uint32_t allowance, const int32_t *inputs, size_t count, int32_t *list,
                   size_t places, uint8_t *output, size_t room, rec_report *report) {
     int32_t refused = refusal(store, letter, role, inputs, count, places);
     if (refused != 0) {

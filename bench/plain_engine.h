@@ -5,9 +5,9 @@
 #include "rec.h"
 
 void plain_fresh(rec_store *store);
-int32_t plain_define(rec_store *store, uint8_t letter, uint8_t mark, const uint8_t *text, size_t length);
+int32_t plain_define(rec_store *store, uint8_t letter, uint32_t mark, const uint8_t *text, size_t length);
 int32_t plain_withdraw(rec_store *store, uint8_t letter);
-int32_t plain_run(rec_store *store, uint8_t letter, uint8_t role, uint32_t allowance, const int32_t *inputs, size_t count, int32_t *list,
+int32_t plain_run(rec_store *store, uint8_t letter, uint32_t role, uint32_t allowance, const int32_t *inputs, size_t count, int32_t *list,
                   size_t places, uint8_t *output, size_t room, rec_report *report);
 
 #endif

@@ -9,9 +9,9 @@ enum { PAPER = 4096 };
 
 struct side {
     void (*fresh)(rec_store *);
-    int32_t (*define)(rec_store *, uint8_t, uint8_t, const uint8_t *, size_t);
+    int32_t (*define)(rec_store *, uint8_t, uint32_t, const uint8_t *, size_t);
     int32_t (*withdraw)(rec_store *, uint8_t);
-    int32_t (*run)(rec_store *, uint8_t, uint8_t, uint32_t, const int32_t *, size_t, int32_t *, size_t, uint8_t *, size_t, rec_report *);
+    int32_t (*run)(rec_store *, uint8_t, uint32_t, uint32_t, const int32_t *, size_t, int32_t *, size_t, uint8_t *, size_t, rec_report *);
     rec_store store;
     int32_t list[REC_LIST];
     uint8_t output[PAPER];
