@@ -1,2 +1,3 @@
 // The emitter: the cells of one token after another.
+#![tactic(auto)]
 pub mod pass;

@@ -1,4 +1,5 @@
 // The fair copy of a source text: the same marks in the same order, and nothing else.
+#![tactic(auto)]
 ghost use Rattle.std.specs.Prelude.{◌≡◌, [], ◌∷◌, ◌+◌, ◌≤◌, length, get_or, drop};
 ghost use Rattle.language.specs.Syntax.{Expr};
 ghost use Rattle.language.specs.Reading.{accepted, read};

@@ -297,6 +297,9 @@ formed-decodes w g =
 
 -- a cell past those from place q on
 past : (q : ℕ) (l : List ℤ) (c : ℤ) (n k : ℕ) → drop q l ≡ c ∷ replicate n (pos 0) → q < k → get_or l k (pos 0) ≡ pos 0
+past zero l c n zero e h = elim h [ ]
+past (suc q) [] c n zero e h = elim h [ ]
+past (suc q) (x ∷ l) c n zero e h = elim h [ ]
 past zero l c n (suc k) e h = ap (λ z. get_or z (suc k) (pos 0)) e ∙ zeros n k
   where
     zeros : (m j : ℕ) → get_or (replicate m (pos 0)) j (pos 0) ≡ pos 0

@@ -1,4 +1,6 @@
 // What code and definitions share: a letter's code table with its limits, and the answers of document 01.
+#![tactic(auto)]
+
 ghost use Rattle.std.specs.Prelude.{◌≡◌};
 ghost use Rattle.language.specs.Answers.{fault_number, ending_number};
 ghost use Rattle.language.specs.Layout.{cleared};

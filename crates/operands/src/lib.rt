@@ -1,4 +1,5 @@
 // What the instructions share: the machine's numbers with its stops, steps and returns, and the readers of a table's cells.
+#![tactic(auto)]
 ghost use Rattle.std.specs.Prelude.{◌≡◌, ◌<◌, eqb};
 ghost use Rattle.operands.specs.Held.{framed, stopped_as, stepped};
 ghost use Rattle.operands.specs.Turns.{Turns, returned};
