@@ -1,0 +1,16 @@
+-- `write_bytes` meets its contract. The loop's invariant: the first i bytes are copied.
+use mathlib.Core.Path.{refl, sym, ◌∙◌}
+use Prim.Native.Nat.{◌-◌}
+use native.Mathlib.Omega.{arith}
+use lib.ListN.{length}
+use borrow.Author.Rules.{rules}
+use borrow.Author.Tests.{leb-true, not-true, not-false}
+use Rattle.language.proofs.Copies.{Pasting, pasting-none, pasting-more}
+use Rattle.numerals.proofs.Numerals.{pasted, written-no-room}
+use Rattle.numerals.proofs.write_bytes.Given as goal
+
+abbrev pub invariant-loop-i : goal.invariant-loop-i
+invariant-loop-i l = Pasting l.initial.out l.at l.bytes (length l.bytes) l.out l.i
+
+abbrev pub decreases-loop-i : goal.decreases-loop-i
+decreases-loop-i l = length l.bytes - l.i
