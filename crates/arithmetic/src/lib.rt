@@ -17,14 +17,14 @@ const HIGHEST: i64 = MOST_VALUE as i64;
 const LOWEST: i64 = 0 - HIGHEST;
 
 // `A` and `M`.
-#[derive(Drop)]
+#[derive(Clone, Copy)]
 pub enum UnaryOperator {
     Absolute,
     Negate,
 }
 
 // `+ - * /`.
-#[derive(Drop)]
+#[derive(Clone, Copy)]
 pub enum BinaryOperator {
     Add,
     Subtract,
@@ -33,7 +33,7 @@ pub enum BinaryOperator {
 }
 
 // A result within ±999,999,999, or one outside.
-#[derive(Drop)]
+#[derive(Clone, Copy)]
 enum Value {
     Is(i32),
     Far,

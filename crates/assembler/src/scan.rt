@@ -41,7 +41,7 @@ fn take(
 }
 
 // The first pass and the place after the last `)`.
-#[derive(Drop)]
+#[derive(Clone, Copy)]
 pub struct Scanned {
     pub pass: Pass,
     pub next: usize,

@@ -7,7 +7,7 @@ ghost use Rattle.book.specs.Refusals.{refusal_number};
 use language::Fault;
 
 // Why a call on a store is refused, in the order of the documents' numbers: 1, 2 to 9, 10 to 13, 33 and 35.
-#[derive(Drop)]
+#[derive(Clone, Copy)]
 pub enum Refusal {
     NoSuchLetter,
     BadText(Fault),
@@ -39,7 +39,7 @@ impl Refusal {
 
 // The figures that a call returns: "the ending, truth (false unless finished), steps, list height, inputs taken and output length". The number is
 // 0, the ending's or the refusal's.
-#[derive(Drop)]
+#[derive(Clone, Copy)]
 pub struct Report {
     pub number: u32,
     pub truth: bool,

@@ -18,14 +18,14 @@ pub const LINES: u32 = 9999;
 pub const KEPT: usize = LINE + 1;
 
 // Where the day is, beside its store: how many lines are done, and how many bytes of the next line stand at the start of its buffer.
-#[derive(Drop)]
+#[derive(Clone, Copy)]
 pub struct Place {
     pub done: u32,
     pub kept: usize,
 }
 
 // What a step came to: where the day is then, how many bytes of the part it took, and how many it printed, at the start of the paper.
-#[derive(Drop)]
+#[derive(Clone, Copy)]
 pub struct Advance {
     pub place: Place,
     pub taken: usize,

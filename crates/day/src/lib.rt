@@ -14,7 +14,7 @@ use numerals::write_bytes;
 pub const SHORT_OUTPUT: u32 = 50;
 
 // 0 and how many bytes were written, or SHORT_OUTPUT and 0.
-#[derive(Drop)]
+#[derive(Clone, Copy)]
 pub struct Written {
     pub number: u32,
     pub count: usize,

@@ -138,7 +138,7 @@ fn serve(
 }
 
 // A part of the input went through the desk, as far as it could be written.
-#[derive(Drop)]
+#[derive(Clone, Copy)]
 struct Relayed {
     place: Place,
     taken: usize,

@@ -28,7 +28,7 @@ const NO_WINNER: u32 = 32;
 pub const FIGURES: usize = 5;
 
 // The figures of a pool that is paid out: the dividend in cents for one stake, the others in cents.
-#[derive(Drop)]
+#[derive(Clone, Copy)]
 pub struct Payout {
     pub takeout: u64,
     pub net: u64,
@@ -38,7 +38,7 @@ pub struct Payout {
 }
 
 // What comes of a pool: its figures, or why there are none.
-#[derive(Drop)]
+#[derive(Clone, Copy)]
 pub enum Settlement {
     Pays(Payout),
     BadPool,

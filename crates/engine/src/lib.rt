@@ -20,14 +20,14 @@ pub struct Store {
 }
 
 // The store after a define or a withdraw, and 0 or the refusal's number.
-#[derive(Drop)]
+#[derive(Clone, Copy)]
 pub struct Changed {
     pub store: Store,
     pub number: u32,
 }
 
 // The store after a run, and the figures that the run returns.
-#[derive(Drop)]
+#[derive(Clone, Copy)]
 pub struct Answer {
     pub store: Store,
     pub report: Report,

@@ -5,7 +5,7 @@ use language::{CASHIER, FIRST_LETTER, HEIGHT, MOST_VALUE, OPEN};
 use operands::cells::bounded;
 
 // What a run gave: its number, its steps and the top of its list, 0 if none.
-#[derive(Drop)]
+#[derive(Clone, Copy)]
 struct Given {
     number: u32,
     steps: u32,

@@ -47,7 +47,7 @@ impl Copied {
 }
 
 // The place in a text after what was copied, and the place after its copy.
-#[derive(Drop)]
+#[derive(Clone, Copy)]
 struct Moved {
     from: usize,
     at: usize,

@@ -12,7 +12,7 @@ use operands::cells::digit_at;
 use validation::is_value;
 
 // `F` and `S`.
-#[derive(Drop)]
+#[derive(Clone, Copy)]
 pub enum Access {
     Fetch,
     Save,

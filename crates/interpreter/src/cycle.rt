@@ -13,7 +13,7 @@ use language::{COUNTS, HEIGHT, LETTERS, STORE_CELLS, Table, VARIABLES};
 use operands::{FRAMES, Machine};
 
 // "the letter's used-cell count and its start in the store"
-#[derive(Drop)]
+#[derive(Clone, Copy)]
 pub struct Fetched {
     pub base: usize,
     pub end: usize,

@@ -102,7 +102,7 @@ impl Table {
 }
 
 // The first fault of a text that is refused, in the order of document 01's numbers, 2 to 9.
-#[derive(Drop)]
+#[derive(Clone, Copy)]
 pub enum Fault {
     LongText,
     StrayMark,
@@ -133,7 +133,7 @@ impl Fault {
 }
 
 // How a run ends: 0 and the documents' numbers 20 to 29 and 34.
-#[derive(Drop)]
+#[derive(Clone, Copy)]
 pub enum Ending {
     Finished,
     Spent,

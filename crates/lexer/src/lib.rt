@@ -17,7 +17,7 @@ const COUNTER_DIGITS: usize = 4;
 const ZERO_AS: u8 = 10;
 
 // What a byte is where a token may begin.
-#[derive(Drop)]
+#[derive(Clone, Copy)]
 pub enum Kind {
     Blank,
     Quote,
@@ -37,7 +37,7 @@ pub enum Kind {
 
 // A token, a mark of document 01. An operator, a variable, a condition and a call have their byte, a variable also its digit (0 as 10), a counter its
 // number, a constant its value, a print the place of its first byte and its length. `Blank` is what is skipped between marks.
-#[derive(Drop)]
+#[derive(Clone, Copy)]
 pub enum Token {
     Blank,
     End,
@@ -56,21 +56,21 @@ pub enum Token {
 }
 
 // A token and the place after it.
-#[derive(Drop)]
+#[derive(Clone, Copy)]
 pub struct Lexed {
     pub token: Token,
     pub next: usize,
 }
 
 // A place after what is skipped between marks, or the refusal.
-#[derive(Drop)]
+#[derive(Clone, Copy)]
 pub enum Skipped {
     To(usize),
     Refused(Fault),
 }
 
 // What the reader of numbers answers: a value and the place after its closing byte, or the refusal.
-#[derive(Drop)]
+#[derive(Clone, Copy)]
 pub enum Number {
     Value(u32, usize),
     Refused(Fault),

@@ -22,7 +22,7 @@ const LETTER_END: usize = 3;
 pub const FIELD_START: usize = 4;
 
 // What a line asks for. The text of a define is the line's from `FIELD_START` on; a run has its allowance and how many inputs it brings.
-#[derive(Drop)]
+#[derive(Clone, Copy)]
 pub enum Command {
     Define(u8),
     Withdraw(u8),
@@ -31,14 +31,14 @@ pub enum Command {
 }
 
 // 1 to 9 digits: their value and the place after them.
-#[derive(Drop)]
+#[derive(Clone, Copy)]
 enum Number {
     Digits(u32, usize),
     NoDigits,
 }
 
 // An input and the place after it.
-#[derive(Drop)]
+#[derive(Clone, Copy)]
 enum Input {
     Value(i32, usize),
     NoValue,

@@ -18,7 +18,7 @@ const LAST_ORDER: usize = Table::COUNTERS - 1;
 
 // An instruction's format, of document 01's list of marks and their cells: "code", "code, digit", "code, the value", "code, false", a counter's "-36, -n,
 // its order .., false", a print's "code, length, bytes", a transfer; or a byte that is no code.
-#[derive(Drop)]
+#[derive(Clone, Copy)]
 pub enum Format {
     Bare,
     Digit,

@@ -24,7 +24,7 @@ const UNIT_CENTS: u32 = 100;
 const POINT: usize = COLUMNS - 3;
 
 // Digits that stand at a place of a text: how many, and their value.
-#[derive(Drop)]
+#[derive(Clone, Copy)]
 pub struct Numeral {
     pub count: usize,
     pub value: u32,

@@ -1,5 +1,6 @@
 // What the instructions share: the machine's numbers with its stops, steps and returns, and the readers of a table's cells.
 #![tactic(auto)]
+
 ghost use Rattle.std.specs.Prelude.{◌≡◌, ◌<◌, eqb};
 ghost use Rattle.operands.specs.Held.{framed, stopped_as, stepped};
 ghost use Rattle.operands.specs.Turns.{Turns, returned};
@@ -15,7 +16,7 @@ pub const FRAMES: usize = 3 * Table::CALLS;
 // The machine's numbers: the letter and the program counter, the stack's height, the open calls, the inputs taken, the bytes written, the steps
 // left of the allowance, and the state: it goes on, it has ended true or false, it enters a letter's code, or it is the number of the ending that stopped
 // the run.
-#[derive(Drop)]
+#[derive(Clone, Copy)]
 pub struct Machine {
     pub letter: usize,
     pub at: usize,

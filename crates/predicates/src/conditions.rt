@@ -11,7 +11,7 @@ use operands::Machine;
 use operands::cells::exit_of;
 
 // `N 0 J`.
-#[derive(Drop)]
+#[derive(Clone, Copy)]
 pub enum Condition {
     Negative,
     Null,

@@ -12,7 +12,7 @@ const LETTER_P: u32 = 112;
 const LETTER_Q: u32 = 113;
 
 // The numbers of the three runs, and what the first one pays.
-#[derive(Drop)]
+#[derive(Clone, Copy)]
 pub struct Shown {
     pub before: u32,
     pub paid: i32,

@@ -1,0 +1,6 @@
+-- `operands::Machine::stop` meets its contract.
+use borrow.Author.Rules.{rules}
+use Rattle.operands.proofs.Machine.stop.Goals as goal
+
+pub returns : goal.returns
+returns c = rw c.number.ensures
