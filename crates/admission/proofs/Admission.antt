@@ -45,26 +45,26 @@ module _ (st : Store) (l n : ℕ) (asked : n ≡ refused_by (opening (store_view
   text-early h = refused-early (opening (store_view st) l) (not_standing (store_view st) l ∷ []) n asked h
 
   module _ (zero : n ≡ 0) where
-    pub mark-bad : (k : ℕ) (z : Bool) (m : ℕ) → z ≡ is_permission k → not z ≡ true → m ≡ refusal_number BadMark
+    pub mark-bad : (k : ℕ) (z : Bool) (m : ℕ) → z ≡ is_permission k → z ≡ false → m ≡ refusal_number BadMark
         → m ≡ refused_by (mark_tests (store_view st) l k)
     mark-bad k z m e h q =
         refused-later (opening (store_view st) l) (unless (is_permission k) BadMark ∷ []) n m asked zero
-        (test-fails (is_permission k) BadMark m (sym e ∙ not-true z h) q)
+        (test-fails (is_permission k) BadMark m (sym e ∙ h) q)
 
-    pub mark-good : (k : ℕ) (z : Bool) → z ≡ is_permission k → not z ≡ false → 0 ≡ refused_by (mark_tests (store_view st) l k)
+    pub mark-good : (k : ℕ) (z : Bool) → z ≡ is_permission k → z ≡ true → 0 ≡ refused_by (mark_tests (store_view st) l k)
     mark-good k z e h =
         refused-later (opening (store_view st) l) (unless (is_permission k) BadMark ∷ []) n 0 asked zero
-        (test-holds (is_permission k) BadMark (sym e ∙ not-false z h))
+        (test-holds (is_permission k) BadMark (sym e ∙ h))
 
-    pub role-bad : (r : ℕ) (z : Bool) (m : ℕ) → z ≡ is_role r → not z ≡ true → m ≡ refusal_number BadMark → m ≡ refused_by (role_tests (store_view st) l r)
+    pub role-bad : (r : ℕ) (z : Bool) (m : ℕ) → z ≡ is_role r → z ≡ false → m ≡ refusal_number BadMark → m ≡ refused_by (role_tests (store_view st) l r)
     role-bad r z m e h q =
         refused-later (opening (store_view st) l) (unless (is_role r) BadMark ∷ []) n m asked zero
-        (test-fails (is_role r) BadMark m (sym e ∙ not-true z h) q)
+        (test-fails (is_role r) BadMark m (sym e ∙ h) q)
 
-    pub role-good : (r : ℕ) (z : Bool) → z ≡ is_role r → not z ≡ false → 0 ≡ refused_by (role_tests (store_view st) l r)
+    pub role-good : (r : ℕ) (z : Bool) → z ≡ is_role r → z ≡ true → 0 ≡ refused_by (role_tests (store_view st) l r)
     role-good r z e h =
         refused-later (opening (store_view st) l) (unless (is_role r) BadMark ∷ []) n 0 asked zero
-        (test-holds (is_role r) BadMark (sym e ∙ not-false z h))
+        (test-holds (is_role r) BadMark (sym e ∙ h))
 
     pub text-none : (m : ℕ) → get_or st.used (letter_index l) 0 ≡ 0 → m ≡ refusal_number NotStanding → m ≡ refused_by (text_tests (store_view st) l)
     text-none m h q =
