@@ -21,8 +21,7 @@ use Rattle.numerals.proofs.Numerals.{written-room}
 use Rattle.operands.specs.Loop.{effect_turn}
 use Rattle.operands.specs.Held.{state_of, configuration_of, writing}
 use Rattle.paper.proofs.Effects.{emitted-fits, emitted-out, operate-turn}
-use Rattle.paper.proofs.output.write.Statement.{statement}
-use Rattle.paper.proofs.output.write.Tie as tie
+use Rattle.paper.proofs.output.write.Goals as goal
 
 -- A column that fits is pasted.
 column-written : (o : List ℕ) (at : ℕ) (v : ℤ) {r : ℕ} {o' : List ℕ} → at + write_width ≤ length o → wrote r o' ≡ written o at (column v)
@@ -32,31 +31,29 @@ column-written o at v h e =
     let s = e ∙ sym (written-room o at (column v) (omega arith)) in
     (ap (λ (x : Written). x.next) s ∙ ap (λ (k : ℕ). at + k) n, ap (λ (x : Written). x.buffer) s ∙ ap (paste o at (column v)) n)
 
-returns : tie.Need-returns
-returns c = λ h. rw (c.stop.ensures, eq-eqb _ _ c.before.if1.true)
+pub returns-then-m-eq0 : goal.returns-then-m-eq0
+returns-then-m-eq0 c = λ h. rw (c.stop.ensures, eq-eqb _ _ c.if-m-eq0.true)
 
-returns-2 : tie.Need-returns-2
+pub returns-then-h-lt1 : goal.returns-then-h-lt1
 unfolding perform
-returns-2 c = λ h. rw (c.stop2.ensures, ne_eqb _ _ c.before.before.if1.false, lt-ltb _ _ c.before.if2.true)
+returns-then-h-lt1 c = λ h. rw (c.stop-then-h-lt1.ensures, ne_eqb _ _ c.if-m-eq0.false, lt-ltb _ _ c.if-h-lt1.true)
 
-returns-3 : tie.Need-returns-3
+pub returns-then-output-w-lt-WRITE_WIDTH : goal.returns-then-output-w-lt-WRITE_WIDTH
 unfolding perform
-returns-3 c = λ h.
-    let a = c.before.before.before.before.before.before.args in
+returns-then-output-w-lt-WRITE_WIDTH c = λ h.
+    let a = c.args in
     let H = writing a.m a.list.now a.output.now h in
     let s = state_of H in
     let x : Effect = stops PaperOut in
     let p : perform (operator write) s ≡ x =
-    rw (le-ltb _ _ c.before.before.if2.false) (emitted-out s (column (top s)) write_width (column-width (top s)) (omega arith)) in
-    ◌∙◌ {b = effect_turn x (a.m.at + 1) (configuration_of H)} (rw c.stop3.ensures)
-    (operate-turn (stands_at h.used) (barred_at h.permissions h.role) _ (operator write) (a.m.at + 1) (configuration_of H) x refl c.before.before.before.if1.false p)
+    rw (le-ltb _ _ c.if-h-lt1.false) (emitted-out s (column (top s)) write_width (column-width (top s)) (omega arith)) in
+    ◌∙◌ {b = effect_turn x (a.m.at + 1) (configuration_of H)} (rw c.stop-then-output-w-lt-WRITE_WIDTH.ensures)
+    (operate-turn (stands_at h.used) (barred_at h.permissions h.role) _ (operator write) (a.m.at + 1) (configuration_of H) x refl c.if-m-eq0.false p)
 
-returns-4 : tie.Need-returns-4
+pub returns : goal.returns
 unfolding perform
-returns-4 c = λ h.
-    let wrote = c.before.before.before.before in
-    let held = wrote.before.before.before.before in
-    let a = held.before.before.before.before.args in
+returns c = λ h.
+            let a = c.args in
     let w = a.m.written in
     let o = a.output.now in
     let H = writing a.m a.list.now o h in
@@ -64,14 +61,9 @@ returns-4 c = λ h.
     let v = get_or a.list.now (a.m.height - 1) (pos 0) in
     let b : to_z w32 (of_z w32 v) ≡ v = search rules in
     let fits : w + write_width ≤ length o = omega arith in
-    let e = column-written o w v fits (rw b at wrote.put-column.ensures) in
+    let e = column-written o w v fits (rw b at c.put_column.ensures) in
     let x : Effect = goes (with_output s (paste o w (column v) write_width) (w + write_width)) in
-    let p : perform (operator write) s ≡ x = rw (le-ltb _ _ held.if2.false) (emitted-fits s (column v) write_width (column-width v) fits) in
+    let p : perform (operator write) s ≡ x = rw (le-ltb _ _ c.if-h-lt1.false) (emitted-fits s (column v) write_width (column-width v) fits) in
     ◌∙◌ {b = effect_turn x (a.m.at + 1) (configuration_of H)}
     (rw (c.go.ensures, e.0, e.1))
-    (operate-turn (stands_at h.used) (barred_at h.permissions h.role) _ (operator write) (a.m.at + 1) (configuration_of H) x refl held.before.if1.false p)
-
-pub write_spec : {M : Type 1} → statement M
-write_spec =
-    tie.close (tie.spec (λ c κs. search rules) returns (λ c κs. search rules) returns-2 (λ c. search rules) (λ c κs. search rules) returns-3
-    (λ c. search rules) (λ c. search rules) (λ c κs. search rules) (λ c. search rules) (λ c κs. search rules) (λ c. search rules) returns-4)
+    (operate-turn (stands_at h.used) (barred_at h.permissions h.role) _ (operator write) (a.m.at + 1) (configuration_of H) x refl c.if-m-eq0.false p)
