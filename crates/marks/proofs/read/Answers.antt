@@ -35,15 +35,10 @@ format_of-requires c = tt
 
 pub next_cell-next-requires : goal.next_cell-next-requires
 next_cell-next-requires c =
-    let at : ℕ = c.loop-at.at in
-    let element : ℕ → ℤ = λ i. get_or c.args.cells.now i (pos 0) in
-    let near : at + 1 ≡ c.args.end = omega (arith, c.loop-at.invariant.high) in
-    let tab : Table = table_from c.args.cells.now c.args.base c.args.end in
-    let first : cell tab at ≡ element (c.args.base + at - 1) = cell_at c.args.cells.now c.args.base c.args.end at (c.args.base + at - 1) (omega (arith, c.loop-at.invariant.low)) (omega (arith, near, c.requires.high)) (omega (arith, c.loop-at.invariant.low)) in
     record {
-  inside = record { cells = c.requires.cells; used = c.requires.high; first = c.loop-at.invariant.low; early = omega arith };
-  format = c.format_of.ensures ∙ ap format_of c.byte_at-b.ensures;
-}
+      inside = record { cells = c.requires.cells; used = c.requires.high; first = c.loop-at.invariant.low; early = omega arith };
+      format = c.format_of.ensures ∙ ap format_of c.byte_at-b.ensures;
+    }
 
 pub returns-then-next-eq0 : goal.returns-then-next-eq0
 returns-then-next-eq0 c = reading-broken c.args.cells.now c.args.base c.args.end c.requires.high _ _ _ c.loop-at.at c.loop-at.invariant (omega arith) _ c.next_cell-next.ensures c.if-next-eq0.true
