@@ -1,0 +1,17 @@
+-- `reach::same` meets its contract.
+use mathlib.Core.Path.{◌≡◌}
+use mathlib.Core.Bool.{false≢true}
+use Prim.Native.Nat.{ℕ, ◌-◌, ◌<◌}
+use native.Mathlib.Omega.{arith}
+use lib.ListN.{get_or}
+use lib.Seq.{ext_get_or}
+use borrow.Author.Rules.{rules}
+use Rattle.language.specs.Limits.{max_letters}
+use Rattle.reach.proofs.Flags.{same_more}
+use Rattle.reach.proofs.same.Given as goal
+
+abbrev pub invariant-loop-b : goal.invariant-loop-b
+invariant-loop-b l = (j : ℕ) → j < l.b → get_or l.x j 0 ≡ get_or l.y j 0
+
+abbrev pub decreases-loop-b : goal.decreases-loop-b
+decreases-loop-b l = max_letters - l.b
