@@ -12,49 +12,41 @@ use Prim.Native.Nat.{◌+◌}
 use mathlib.Core.Path.{◌≡◌}
 use borrow.Author.Rules.{rules}
 use native.Mathlib.Omega.{arith}
-use Rattle.assembler.proofs.exits.settle.Statement.{statement}
-use Rattle.assembler.proofs.exits.settle.Tie as tie
+use Rattle.assembler.proofs.exits.settle.Goals as goal
 
-returns : tie.Need-returns
+pub returns-in-63 : goal.returns-in-63
 unfolding settled
-returns c =
-    let s = c.before.before.args in
+returns-in-63 c =
+    let s = c.args in
     let e : to_z w32 (of_z w32 (get_or s.falses.now s.level (pos 0))) ≡ get_or s.falses.now s.level (pos 0) = search rules in
-    rw (e, c.before.match.keys1)
+    rw (e, c.in-63.is)
 
-returns-2 : tie.Need-returns-2
+pub returns-in-59 : goal.returns-in-59
 unfolding settled
-returns-2 c =
-    let s = c.before.before.args in
+returns-in-59 c =
+    let s = c.args in
     let e : to_z w32 (of_z w32 (get_or s.ends.now s.level (pos 0))) ≡ get_or s.ends.now s.level (pos 0) = search rules in
     let f : to_z w32 (s.i + 2) ≡ pos (s.i + 2) = to_z_pos w32 (omega arith) in
-    rw (e, f, c.before.match.keys2)
+    rw (e, f, c.in-59.is)
 
-returns-3 : tie.Need-returns-3
+pub returns-in-41 : goal.returns-in-41
 unfolding settled
-returns-3 c =
-    let s = c.before.before.args in
+returns-in-41 c =
+    let s = c.args in
     let e : to_z w32 (of_z w32 (get_or s.falses.now s.level (pos 0))) ≡ get_or s.falses.now s.level (pos 0) = search rules in
     let f : to_z w32 (s.i + 2) ≡ pos (s.i + 2) = to_z_pos w32 (omega arith) in
-    rw (e, f, c.before.match.keys3)
+    rw (e, f, c.in-41.is)
 
-returns-4 : tie.Need-returns-4
+pub returns-in-58 : goal.returns-in-58
 unfolding settled
-returns-4 c =
-    let s = c.before.args in
+returns-in-58 c =
+    let s = c.args in
     let f : to_z w32 (s.i + 2) ≡ pos (s.i + 2) = to_z_pos w32 (omega arith) in
-    rw (f, c.match.keys4)
+    rw (f, c.in-58.is)
 
-returns-5 : tie.Need-returns-5
+pub returns-in_default : goal.returns-in_default
 unfolding settled
-returns-5 c =
-    let k = c.before.args.kind in
-    let r = c.match.rest in
+returns-in_default c =
+    let k = c.args.kind in
+    let r = c.in_default.in_default-own.rest in
     simp (ne_eqb k (fixup_byte exit_open) r.0.0.0.1, ne_eqb k (fixup_byte end_open) r.0.0.1, ne_eqb k (fixup_byte close_open) r.0.1, ne_eqb k colon_byte r.1)
-
-pub settle-spec : {M : Type 1} → statement M
-settle-spec =
-    tie.close (tie.spec (λ c. search rules) (λ c. search rules) (λ c. search rules) (λ c. search rules) (λ c. search rules) (λ c. search rules)
-    (λ c. search rules) (λ c. search rules) (λ c. search rules) (λ c. search rules) (λ c. search rules) (λ c. search rules) (λ c. search rules)
-    (λ c. search rules) (λ c. search rules) (λ c. search rules) (λ c. search rules) (λ c. search rules) (λ c. search rules) (λ c. search rules)
-    (λ c. search rules) (λ c. search rules) (λ c. search rules) (λ c. search rules) returns returns-2 returns-3 returns-4 returns-5)
