@@ -82,7 +82,7 @@ agree-set F f v z a h = record { places = length-set F v z ∙ a.places; each = 
 pub record Holds (a : Ahead) (l : List Cell) (B : Back) (z : List ℤ) : Type 0 where
   pub cells_are : a.cells ≡ onto value_of l (B.out ++ z)
   pub falses-are : Agree a.falses B.false_of
-  pub ends-are : Agree a.ends B.end_of_lem
+  pub ends-are : Agree a.ends B.end_of
 
 two-on : (n : ℕ) → n + 2 ≡ suc (suc n)
 two-on n = omega arith

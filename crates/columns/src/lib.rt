@@ -1,5 +1,6 @@
 // What a desk line prints: columns right-justified in columns, and a run's output.
 #![tactic(auto)]
+
 ghost use Rattle.std.specs.Prelude.{◌≡◌, length};
 ghost use Rattle.numerals.specs.Numerals.{wrote, written};
 ghost use Rattle.columns.specs.Printed.{most_bytes, bit, columns, paper, top};

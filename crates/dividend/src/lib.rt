@@ -1,5 +1,6 @@
 // The win dividend: what a pool pays on each winning stake.
 #![tactic(auto)]
+
 ghost use Rattle.std.specs.Prelude.{◌≡◌, ◌≤◌};
 ghost use Rattle.dividend.specs.Dividend.{takeout_of, in_bounds, IsDividend, Settles, settlement_number, payout_of, no_payout, SettledInto};
 

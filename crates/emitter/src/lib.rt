@@ -1,3 +1,4 @@
 // The emitter: the cells of one token after another.
 #![tactic(auto)]
+
 pub mod pass;

@@ -26,7 +26,7 @@ const COUNTER_CODE: u8 = b'$';
 pub const LEVEL_PLACES: usize = Table::LEVELS + 2;
 
 // The number of the refusal or 0, the nesting level, the used cells and the counters so far.
-#[derive(Drop)]
+#[derive(Clone, Copy)]
 pub struct Pass {
     pub fault: u32,
     pub level: usize,

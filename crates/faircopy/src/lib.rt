@@ -1,5 +1,6 @@
 // The fair copy of a source text: the same marks in the same order, and nothing else.
 #![tactic(auto)]
+
 ghost use Rattle.std.specs.Prelude.{◌≡◌, [], ◌∷◌, ◌+◌, ◌≤◌, length, get_or, drop};
 ghost use Rattle.language.specs.Syntax.{Expr};
 ghost use Rattle.language.specs.Reading.{accepted, read};
@@ -15,7 +16,7 @@ use numerals::write_bytes;
 const SHORT_PAPER: u32 = 30;
 
 // What comes of a fair copy: its length, the linker's number, or a paper that is too short.
-#[derive(Drop)]
+#[derive(Clone, Copy)]
 pub enum Copied {
     Whole(usize),
     Refused(u32),

@@ -1,5 +1,6 @@
 // The lexer: from a place of a source text to its next token.
 #![tactic(auto)]
+
 ghost use Rattle.std.specs.Prelude.{◌≡◌, [], ◌∷◌, ◌+◌, ◌-◌, ◌≤◌, ◌<◌, length, drop};
 ghost use Rattle.language.specs.Syntax.{Access, access_byte};
 ghost use Rattle.language.specs.Tokens.{begins, idle, comment, after-tick, after-access, number, printing, tokens};

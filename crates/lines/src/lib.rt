@@ -1,5 +1,6 @@
 // The form of a desk line: `D` letter text, `X` letter, `R` letter allowance inputs, with one blank between fields.
 #![tactic(auto)]
+
 ghost use Rattle.std.specs.Prelude.{List, [], ◌≤◌, ℤ, length, drop};
 ghost use Rattle.lines.specs.Lines.{request, definition, withdrawal, execution, input, sign, number};
 ghost use Rattle.lines.specs.Commands.{letter_end, Asks, Parsed, Ready, NumberIs, InputIs, after};

@@ -1,5 +1,6 @@
 // The linker: from a source text to its code table, or to the number of its refusal.
 #![tactic(auto)]
+
 ghost use Rattle.std.specs.Prelude.{◌≡◌, min};
 ghost use Rattle.language.specs.Layout.{cleared};
 ghost use Rattle.language.specs.Reading.{read};
