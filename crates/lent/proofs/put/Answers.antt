@@ -1,0 +1,8 @@
+-- `lent::put` meets its contract.
+use Rattle.book.specs.Store.{with_entry}
+use borrow.Author.Rules.{rules}
+use Rattle.lent.proofs.put.Goals as goal
+
+pub returns : goal.returns
+unfolding with_entry
+returns c = λ v. rw c.copy_table.ensures
