@@ -20,14 +20,14 @@ pub struct Store {
 }
 
 // The store after a define or a withdraw, and 0 or the refusal's number.
-#[derive(Clone, Copy)]
+#[derive(Drop)]
 pub struct Changed {
     pub store: Store,
     pub number: u32,
 }
 
 // The store after a run, and the figures that the run returns.
-#[derive(Clone, Copy)]
+#[derive(Drop)]
 pub struct Answer {
     pub store: Store,
     pub report: Report,

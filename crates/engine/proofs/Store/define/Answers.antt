@@ -1,0 +1,6 @@
+-- `engine::Store::define` meets its contract.
+use borrow.Author.Rules.{rules}
+use Rattle.engine.proofs.Store.define.Goals as goal
+
+pub returns : goal.returns
+returns c = c.define-number.ensures
