@@ -1,0 +1,15 @@
+-- `day::play` meets its contract.
+use native.Mathlib.Omega.{arith}
+use borrow.Author.Rules.{rules}
+use Rattle.console.specs.Day.{day_of}
+use Rattle.day.proofs.Played.{too_short, long-enough}
+use Rattle.day.proofs.play.Goals as goal
+
+pub returns-then-output-count : goal.returns-then-output-count
+returns-then-output-count c =
+        too_short _ c.print-count.new.output (day_of c.args.input.now) _ (omega (arith, c.before.before)) c.print-count.ensures.count c.if-output-count.true
+
+pub returns : goal.returns
+returns c =
+    let e = c.before.before.before.before in
+    long-enough _ c.print-count.new.output _ _ (omega (arith, e.before.before)) c.print-count.ensures.count _ _ c.if-output-count.false c.print.ensures
