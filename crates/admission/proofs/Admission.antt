@@ -2,20 +2,16 @@
 use mathlib.Core.Path.{◌≡◌, sym, ap, ◌∙◌}
 use Prim.Native.Nat.{ℕ}
 use mathlib.Core.Bool.{Bool, true, false, not}
-use mathlib.Core.Option.{none}
 use mathlib.Core.List.{List, [], ◌∷◌, ◌++◌}
 use lib.IntN.{ℤ}
-use lib.ListN.{length, get_or}
-use lib.Dec.{eqb}
-use borrow.Author.Tests.{eq-eqb, ne_eqb, not-true, not-false}
+use lib.ListN.{get_or}
+use borrow.Author.Tests.{eq-eqb, ne_eqb}
 use Rattle.language.specs.Letters.{is_letter, letter_index}
-use Rattle.language.specs.Limits.{max_height}
-use Rattle.language.specs.Roles.{permission_at, is_permission, is_role, bars}
+use Rattle.language.specs.Roles.{is_permission, is_role}
 use Rattle.language.specs.Tables.{stands_at}
-use Rattle.language.specs.Values.{lawful}
 use Rattle.book.specs.declared.Refusal.{Refusal}
-use Rattle.book.specs.declared.Refusal.TheVariants.{NotStanding, BadInput, BadList, NotForCashiers, BadMark}
-use Rattle.book.specs.Refusals.{refusal_number, View, unless, refused_by, opening, not_standing, closing, mark_tests, role_tests, text_tests}
+use Rattle.book.specs.declared.Refusal.TheVariants.{NotStanding, BadMark}
+use Rattle.book.specs.Refusals.{refusal_number, unless, refused_by, opening, not_standing, closing, mark_tests, role_tests, text_tests}
 use Rattle.book.specs.Store.{Store, store_view}
 use Rattle.book.proofs.Refusals.{none-fits, refused-early, refused-later, opened}
 use Rattle.admission.specs.Admission.{run_by}

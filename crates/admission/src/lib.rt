@@ -1,5 +1,6 @@
 // What refuses a call on a store, in document 01's order, once: 13 and 1 open every call's tests, 35 follows, and 10, 33, 11, 12 close those of a run.
 #![tactic(auto)]
+
 ghost use Rattle.std.specs.Prelude.{◌≡◌, true, ◌++◌};
 ghost use Rattle.language.specs.Letters.{is_letter, letter_index};
 ghost use Rattle.book.specs.Refusals.{opening, mark_tests, role_tests, text_tests, closing};

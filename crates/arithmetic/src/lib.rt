@@ -1,5 +1,6 @@
 // `A M + - * /`: through 64 bits, so that no result wraps before its range is tested.
 #![tactic(auto)]
+
 ghost use Rattle.std.specs.Prelude.{◌≡◌, false, ◌+◌};
 ghost use Rattle.language.specs.Division.{quotient};
 ghost use Rattle.operands.specs.Held.{stacked};

@@ -29,9 +29,9 @@ use Rattle.book.specs.Calls.{Run, Call, defines, withdraws, runs}
 use Rattle.book.specs.Replies.{Reply, Answered, reported, tells}
 use Rattle.book.specs.Refusals.{refusal_number, is_refusal, tests, refusal, answer}
 use Rattle.book.specs.Book.{Book, fresh_book, text_of, is_text, with_text, with_variables, obeyed, book_ran, book_accepts, book_view, book_call}
-use Rattle.book.specs.Store.{Store, fresh_store, store_call}
+use Rattle.book.specs.Store.{Store, fresh_store}
 use Rattle.book.specs.Events.{Event, calls, asked, the_store, the_book}
-use Rattle.book.specs.Sessions.{answers, after, Step, calls_of, Promised}
+use Rattle.book.specs.Sessions.{answers, after, calls_of}
 use Rattle.book.specs.History.{History, Standing, stands_after, standing_from, standing, read_text, permission_of}
 use Rattle.book.specs.Demand3.{Always, Never, ByTheBook, Demand3, Admissible, run_after, refuses, RefusedExactly, ObeysStanding}
 use Rattle.book.proofs.Refusals.{refusal-not-zero, Safe, safe-refusal, faultless, free-letter, free-text}

@@ -4,7 +4,7 @@ use mathlib.Core.List.{List, [], ◌∷◌, map}
 use Rattle.book.specs.Calls.{Call}
 use Rattle.book.specs.Replies.{Answered}
 use Rattle.book.specs.Events.{calls, Answering, asked}
-use Rattle.book.specs.Sessions.{answers, after, Step, calls_of, replies_of, last_of, Promised, Follows, Transfer}
+use Rattle.book.specs.Sessions.{answers, after, Step, calls_of, replies_of, last_of, Promised, Transfer}
 
 module _ {P S C : Type 0} (of : P → S) (f : S → C → Answered S) where
   same-replies : (s : P) (ss : List (Step P C)) → Promised of f s ss → replies_of ss ≡ answers f (of s) (calls_of ss)

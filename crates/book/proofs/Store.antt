@@ -2,7 +2,7 @@
 use mathlib.Core.Path.{◌≡◌, refl, sym, ap, ◌∙◌}
 use Prim.Native.Nat.{ℕ, ◌+◌, ◌-◌, ◌*◌, ◌≤◌, ◌<◌}
 use native.Mathlib.Omega.{arith}
-use mathlib.Core.Bool.{Bool, true, false, cond, ◌&&◌, false≢true}
+use mathlib.Core.Bool.{Bool, true, false, cond, false≢true}
 use mathlib.Core.Option.{Option, none, some}
 use mathlib.Core.List.{List, ◌++◌, append_assoc}
 use lib.IntN.{ℤ, pos}
@@ -15,16 +15,15 @@ use Rattle.language.specs.Limits.{max_cells, max_letters, store_cells}
 use Rattle.language.specs.Meaning.{Outcome, ended, stopped}
 use Rattle.language.specs.Letters.{letter_index}
 use Rattle.language.specs.Effects.{start}
-use Rattle.language.specs.Roles.{open_permission, permission_at}
-use Rattle.language.specs.Tables.{table_at, stands_at, execute, sound_used, sound_permissions}
-use Rattle.language.specs.Values.{lawful}
+use Rattle.language.specs.Roles.{open_permission}
+use Rattle.language.specs.Tables.{table_at, execute}
 use Rattle.book.specs.Calls.{Call, defines, withdraws, runs, lent_list, lent_output}
 use Rattle.book.specs.Replies.{leaves, plain, reported, tells}
 use Rattle.book.specs.declared.Refusal.{Refusal}
-use Rattle.book.specs.Refusals.{refusal_number, is_refusal, first, zero_or, refused_by, tests, refusal, answer}
-use Rattle.book.specs.Store.{Store, with_entry, sound_store, store_ran, store_accepts, store_view, store_call, changed}
+use Rattle.book.specs.Refusals.{is_refusal, first, zero_or, refused_by, tests, refusal, answer}
+use Rattle.book.specs.Store.{Store, with_entry, store_ran, store_accepts, store_view, store_call}
 use Rattle.book.specs.Statements.{RefusalKeeps, EntrySame, EntryOther, EntryCommute}
-use Rattle.book.proofs.Refusals.{ending-no-refusal, none-fits}
+use Rattle.book.proofs.Refusals.{ending-no-refusal}
 
 -- ── a part of a list that is pasted over ────────────────────────────────────────────────────────
 

@@ -1,5 +1,6 @@
 // What code and definitions share of a call's answer.
 #![tactic(auto)]
+
 ghost use Rattle.std.specs.Prelude.{◌≡◌};
 ghost use Rattle.book.specs.Replies.{plain};
 ghost use Rattle.book.specs.Refusals.{refusal_number};

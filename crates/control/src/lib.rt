@@ -1,5 +1,6 @@
 // Calls, transfers (`:`, `;` and inner `)`), and the two last cells of a table.
 #![tactic(auto)]
+
 ghost use Rattle.language.specs.Machine.{is_call};
 ghost use Rattle.operands.specs.Held.{on_machine, framed};
 ghost use Rattle.operands.specs.Turns.{Turns, mark_at, due_at};

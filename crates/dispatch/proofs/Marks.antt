@@ -18,7 +18,7 @@ use Rattle.language.specs.declared.Table.{Table}
 use Rattle.language.specs.Letters.{first_letter, last_letter, is_letter, letter_index}
 use Rattle.language.specs.Layout.{code_start}
 use Rattle.language.specs.Syntax.{Operator, operator}
-use Rattle.language.specs.Machine.{Decoded, damaged, code, operate_at, Kind, is_operator, is_call, cell, kind, mark, decode}
+use Rattle.language.specs.Machine.{Decoded, damaged, code, operate_at, Kind, is_operator, cell, kind, mark, decode}
 use Rattle.language.specs.Tables.{table_from}
 use Rattle.language.proofs.Ints.{fits32}
 use Rattle.operands.specs.declared.Machine.{Machine}
@@ -28,7 +28,7 @@ use Rattle.operands.specs.Turns.{decoded_as, mark_at, due_at, operator_turn}
 use Rattle.operands.specs.Ready.{Inside, Ready, Reading, Writing}
 use Rattle.operands.proofs.Operands.{byte_high}
 use Rattle.operands.proofs.Tables.{cell_at}
-use Rattle.operands.proofs.OperandsDecoding.{byte-early, code-decoded, low-decoded, call-kind, none-kind}
+use Rattle.operands.proofs.OperandsDecoding.{byte-early, code-decoded, low-decoded, none-kind}
 use Rattle.dispatch.specs.Turning.{Turning}
 
 -- the machine's numbers, wherever the due cell stands

@@ -2,4 +2,5 @@
 // function takes the machine's numbers by value, with the table and the buffers that its mark reads or changes, and hands the numbers back after
 // one turn.
 #![tactic(auto)]
+
 pub mod stack;

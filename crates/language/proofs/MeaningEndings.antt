@@ -1,6 +1,6 @@
 -- Which endings can occur: the nested meaning never ends as damaged, and it ends as 27 only where a letter that can be called has no text.
 use mathlib.Core.Path.{◌≡◌, refl, sym, subst}
-use Prim.Native.Nat.{ℕ, zero, suc, ◌+◌, ◌-◌, ◌%◌}
+use Prim.Native.Nat.{ℕ, zero, suc, ◌+◌, ◌%◌}
 use mathlib.Core.Bool.{Bool, true, false, cond, ◌||◌, false≢true}
 use mathlib.Core.Option.{Option, none, some}
 use mathlib.Core.List.{List, [], ◌∷◌}
@@ -15,9 +15,7 @@ use Rattle.language.specs.Limits.{max_height, max_calls, max_variables}
 use Rattle.language.specs.Syntax.{Operator, absolute, discard, negate, copy, write, newline, input, add, subtract, multiply, divide, fetch, save}
 use Rattle.language.specs.Syntax.{negative, null, equal, Operation, operator, variable, constant, print, Predicate, condition, counter}
 use Rattle.language.specs.Syntax.{Expr, close, semi, colon, operate, test, call, inner}
-use Rattle.language.specs.Tokens.{ends}
 use Rattle.language.specs.Between.{between}
-use Rattle.language.specs.Reading.{ending}
 use Rattle.language.specs.Effects.{State, Effect, goes, stops, Verdict, answers, stops_by, needs, ranged, pushed, emitted, operated, perform, ask, count_index, with_taken, top, column, on_call}
 use Rattle.language.specs.Values.{is_value}
 use Rattle.language.specs.Roles.{bars}

@@ -3,7 +3,7 @@
 use mathlib.Core.Path.{◌≡◌, refl, sym, ap, ◌∙◌, subst}
 use Prim.Native.Nat.{ℕ, zero, suc, ◌+◌, ◌*◌, ◌-◌, ◌≤◌, ◌<◌}
 use native.Mathlib.Omega.{arith}
-use mathlib.Core.Bool.{Bool, true, false, false≢true, ◌&&◌}
+use mathlib.Core.Bool.{Bool, true, false, false≢true}
 use mathlib.Core.List.{List, [], ◌∷◌, ◌++◌, reverse, append-nil}
 use lib.ListN.{length, get_or, length-append}
 use lib.Dec.{leb, ltb, eqb}
@@ -12,7 +12,6 @@ use Rattle.language.specs.declared.Fault.{Fault}
 use Rattle.language.specs.declared.Fault.TheVariants.{LongText, StrayMark, Deep, BadCounter, Unfinished, TableFull, ManyCounters}
 use Rattle.language.specs.Answers.{fault_number}
 use Rattle.language.specs.Limits.{max_text, max_levels, max_cells, max_counters}
-use Rattle.language.specs.Between.{between}
 use Rattle.language.specs.Bytes.{digit_byte, is_digit, minus_byte, quote_byte, slash_byte, tick_byte}
 use Rattle.language.specs.Syntax.{Access, operator, variable, constant, print, condition, counter, Expr, close, semi, colon, operate, test, call, inner}
 use Rattle.language.specs.Tokens.{Token, opens, closes, semis, colons, begins, ends, does, asks, counts, calls, faults}
@@ -23,7 +22,6 @@ use Rattle.language.specs.Tokens.{fault, unless, first, numeral, numbered, scan_
 use Rattle.language.specs.Layout.{after_operation, after_predicate, after_call, code_start}
 use Rattle.language.specs.Reading.{Reading, refused, accepted, Place, outside, inside, whole, require, extend, within, starting, ending, parse, read}
 use Rattle.language.specs.Statements.{NotYet, FaultAt, of_byte, FirstFault, EndsEarly, UnfinishedExactly, LongExactly}
-use Rattle.language.proofs.Tests.{first-true, second-true}
 use Rattle.language.proofs.ReadingParsing.{not-accepted}
 use Rattle.language.proofs.Grammar.{reading-sound, reading-complete}
 

@@ -1,12 +1,9 @@
 -- Worked examples, from the bytes of the texts on. Document 01's starred ones are one list. The other lists pin what definition and code take from
 -- one place: numbers, limits, bytes, cells, effects and stops. Every figure is written out here and none is taken from a definition.
-use Rattle.std.specs.Prelude.{ℕ, zero, ◌-◌, true, false, List, [], ◌∷◌, ◌++◌, map, ℤ, pos, length, take, replicate}
+use Rattle.std.specs.Prelude.{ℕ, ◌-◌, true, false, List, [], ◌∷◌, ◌++◌, map, ℤ, pos, replicate}
 use Prim.Native.String.{String}
-use Rattle.std.proofs.Math.Option.{none}
 use Rattle.language.specs.declared.Table.{Table}
-use Rattle.language.specs.Reading.{refused, accepted}
-use Rattle.language.specs.Layout.{cleared}
-use Rattle.language.specs.Machine.{transfer, fail, last, damaged, code, run}
+use Rattle.language.specs.Machine.{transfer, fail, last, damaged, code}
 use Rattle.language.specs.Trials.{bytes, times, neg, zeros, Result, ends, halts, took, keeps, wrote, Example, refused_as, gives, decodes, lays, fault, says, says_none, trial, within, once, fed, printing, guarded, calling, both}
 
 -- ── document 01, "Examples", the starred ones ───────────────────────────────────────────────────

@@ -1,5 +1,6 @@
 // A code table read mark after mark: whether any cell that is met is damaged, and which letters it calls.
 #![tactic(auto)]
+
 ghost use Rattle.std.specs.Prelude.{◌≡◌, []};
 ghost use Rattle.language.specs.Tables.{table_from};
 ghost use Rattle.operands.specs.Ready.{Inside};

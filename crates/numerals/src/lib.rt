@@ -1,5 +1,6 @@
 // Numbers to decimal bytes in a given width, and back; money with a point.
 #![tactic(auto)]
+
 ghost use Rattle.std.specs.Prelude.{◌≡◌, ◌++◌, ◌+◌, ◌-◌, ◌<◌, leb, nat_abs, drop, replicate};
 ghost use Rattle.language.specs.Decimals.{decimals, justified, padded};
 ghost use Rattle.language.specs.Money.{unit_cents, pointed};

@@ -1,5 +1,6 @@
 // What refuses a letter (1), inputs (11), a store (13), and a mark or a role (35).
 #![tactic(auto)]
+
 ghost use Rattle.std.specs.Prelude.{◌≡◌, ◌&&◌, length};
 ghost use Rattle.language.specs.Limits.{max_letters};
 ghost use Rattle.language.specs.Letters.{is_letter};

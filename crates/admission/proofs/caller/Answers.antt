@@ -1,5 +1,4 @@
 -- `admission::caller` meets its contract.
-use borrow.Author.Rules.{rules}
 use Rattle.admission.proofs.Admission.{role-early, role-bad, role-good}
 use Rattle.admission.proofs.caller.Goals as goal
 
@@ -8,8 +7,8 @@ returns-then-number-ne0 c = λ cells. role-early _ c.args.letter _ (c.opening-nu
 
 pub returns-then-not-is_role : goal.returns-then-not-is_role
 returns-then-not-is_role c =
-    λ cells.     role-bad _ c.args.letter _ (c.opening-number.ensures cells) c.if-number-ne0.false c.args.role _ _ c.is_role.ensures c.if-not-is_role.true c.number.ensures
+    λ cells. role-bad _ c.args.letter _ (c.opening-number.ensures cells) c.if-number-ne0.false c.args.role _ _ c.is_role.ensures c.if-not-is_role.true c.number.ensures
 
 pub returns : goal.returns
 returns c =
-    λ cells.     role-good _ c.args.letter _ (c.opening-number.ensures cells) c.if-number-ne0.false c.args.role _ c.is_role.ensures c.if-not-is_role.false
+    λ cells. role-good _ c.args.letter _ (c.opening-number.ensures cells) c.if-number-ne0.false c.args.role _ c.is_role.ensures c.if-not-is_role.false

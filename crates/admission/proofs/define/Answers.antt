@@ -1,5 +1,4 @@
 -- `admission::define` meets its contract.
-use borrow.Author.Rules.{rules}
 use Rattle.admission.proofs.Admission.{mark-early, mark-bad, mark-good}
 use Rattle.admission.proofs.define.Goals as goal
 
@@ -8,8 +7,8 @@ returns-then-number-ne0 c = λ cells. mark-early _ c.args.letter _ (c.opening-nu
 
 pub returns-then-not-is_permission : goal.returns-then-not-is_permission
 returns-then-not-is_permission c =
-    λ cells.     mark-bad _ c.args.letter _ (c.opening-number.ensures cells) c.if-number-ne0.false c.args.permission _ _ c.is_permission.ensures c.if-not-is_permission.true c.number.ensures
+    λ cells. mark-bad _ c.args.letter _ (c.opening-number.ensures cells) c.if-number-ne0.false c.args.permission _ _ c.is_permission.ensures c.if-not-is_permission.true c.number.ensures
 
 pub returns : goal.returns
 returns c =
-    λ cells.     mark-good _ c.args.letter _ (c.opening-number.ensures cells) c.if-number-ne0.false c.args.permission _ c.is_permission.ensures c.if-not-is_permission.false
+    λ cells. mark-good _ c.args.letter _ (c.opening-number.ensures cells) c.if-number-ne0.false c.args.permission _ c.is_permission.ensures c.if-not-is_permission.false

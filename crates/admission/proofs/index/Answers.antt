@@ -1,6 +1,4 @@
 -- `admission::index` meets its contract.
-use mathlib.Core.Path.{refl}
-use borrow.Author.Rules.{rules}
 use Rattle.language.specs.Letters.{first_letter, last_letter}
 use Rattle.language.proofs.Between.{between-bounds}
 use Rattle.admission.proofs.index.Goals as goal

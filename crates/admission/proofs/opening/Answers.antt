@@ -1,7 +1,5 @@
 -- `admission::opening` meets its contract.
 use mathlib.Core.Path.{sym, ◌∙◌}
-use borrow.Author.Tests.{not-true, not-false}
-use borrow.Author.Rules.{rules}
 use Rattle.book.specs.Store.{sound_store}
 use Rattle.admission.proofs.opening.Goals as goal
 

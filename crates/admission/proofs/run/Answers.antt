@@ -1,6 +1,5 @@
 -- `admission::run` meets its contract.
 use mathlib.Core.List.{[]}
-use borrow.Author.Rules.{rules}
 use Rattle.admission.proofs.Admission.{caller-letter, run-early, run-closes}
 use Rattle.admission.proofs.run.Goals as goal
 

@@ -1,18 +1,17 @@
 -- `arithmetic::divided` meets its contract.
 use mathlib.Core.Path.{◌≡◌, sym, ap, ◌∙◌}
-use Prim.Native.Nat.{◌<◌}
 use native.Mathlib.Omega.{arith}
 use lib.IntN.{ℤ, pos, nat_abs}
 use lib.Signed.{quot_z}
 use mir.Syntax.{w32, w64}
-use mir.Val.{SFits, to_z, of_z}
+use mir.Val.{to_z, of_z}
 use mir.Facts.{to_z-of_z}
 use borrow.Author.Tests.{eqb-false}
 use Rattle.language.specs.Division.{quotient}
 use Rattle.language.proofs.Ints.{wide, widened, widened_is}
-use Rattle.operands.proofs.Ints.{wide_fits, wide_back, quotient_fits, wide-nonzero}
+use Rattle.operands.proofs.Ints.{wide_back, quotient_fits}
 use Rattle.arithmetic.proofs.Division.{both_negative, none-negative, zero-divided, dividend-negative, divisor-negative}
-use Rattle.arithmetic.proofs.Division.{sign, moved-fits, moved-quotient-fits, result_fits, result-is}
+use Rattle.arithmetic.proofs.Division.{sign, moved-fits, result_fits, result-is}
 use Rattle.arithmetic.proofs.divided.Goals as goal
 
 pub overflow_cast-a : goal.overflow_cast-a
@@ -40,7 +39,7 @@ returns-then-a-lt0 c =
 
 pub returns-then-a-eq0 : goal.returns-then-a-eq0
 returns-then-a-eq0 c =
-        zero-divided c.args.y ∙ ap (λ (z : ℤ). quotient z c.args.y) (sym (sym (widened_is _ c.ranges.x) ∙ ap (to_z w64) c.if-a-eq0.true))
+    zero-divided c.args.y ∙ ap (λ (z : ℤ). quotient z c.args.y) (sym (sym (widened_is _ c.ranges.x) ∙ ap (to_z w64) c.if-a-eq0.true))
 
 pub overflow_sub-result-then-b-lt0-2 : goal.overflow_sub-result-then-b-lt0-2
 overflow_sub-result-then-b-lt0-2 c = moved-fits c.args.x c.args.y _ (pos 0) c.ranges.x c.ranges.y (omega arith) (omega arith)
@@ -50,7 +49,7 @@ overflow_sub-result-then-b-lt0-2-2 c = result_fits c.args.x c.args.y _ _ c.range
 
 pub returns-then-b-lt0-2 : goal.returns-then-b-lt0-2
 returns-then-b-lt0-2 c =
-        result-is c.args.x c.args.y _ _ c.ranges.x c.ranges.y (omega arith) (omega arith)
+    result-is c.args.x c.args.y _ _ c.ranges.x c.ranges.y (omega arith) (omega arith)
     ∙ divisor-negative c.args.x c.args.y
     (λ e. c.if-a-eq0.false (ap (λ (z : ℤ). of_z w64 z) (ap (λ (z : ℤ). to_z w32 (of_z w32 z)) e)))
     (sign c.args.x c.ranges.x _ c.if-a-lt0.false) (sign c.args.y c.ranges.y _ c.if-b-lt0-2.true)

@@ -7,7 +7,7 @@ use Rattle.arithmetic.proofs.replace.Goals as goal
 
 pub returns-in-Is : goal.returns-in-Is
 returns-in-Is c = λ h.
-        let e : to_z w32 (of_z w32 c.in-Is.z) ≡ c.in-Is.z = search rules in
+    let e : to_z w32 (of_z w32 c.in-Is.z) ≡ c.in-Is.z = search rules in
     rw (c.go.ensures, e, c.in-Is.is)
 
 pub returns-in-Far : goal.returns-in-Far

@@ -4,7 +4,6 @@ use lib.IntN.{ℤ, pos, ◌-ℤ◌}
 use mir.Syntax.{w64}
 use mir.Val.{SFits, to_z, of_z}
 use mir.Facts.{to_z-of_z}
-use borrow.Author.Rules.{rules}
 use Rattle.arithmetic.specs.Results.{value_of}
 use Rattle.language.proofs.Ints.{widened, wide, widened_is, opposite-fits, below-zero, not-below, less}
 use Rattle.operands.proofs.Ints.{wide_fits, wide_back}
@@ -31,7 +30,7 @@ overflow_sub-z-in-Negate c =
 
 pub returns-else-z-lt0 : goal.returns-else-z-lt0
 returns-else-z-lt0 c =
-        let e = widened_is c.args.x c.ranges.x in
+    let e = widened_is c.args.x c.ranges.x in
     rw c.in-Absolute.is
     (c.ranged-in-Absolute.ensures ∙ ap (λ (z : ℤ). value_of z) (e ∙ not-below c.args.x (rw e at c.if-z-lt0.false)))
 

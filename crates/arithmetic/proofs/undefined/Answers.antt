@@ -1,7 +1,6 @@
 -- `arithmetic::undefined` meets its contract.
 use mir.Facts.{to_z-of_z}
 use Rattle.operands.proofs.Ints.{zero_test}
-use borrow.Author.Rules.{rules}
 use Rattle.arithmetic.proofs.undefined.Goals as goal
 
 pub returns-in-Divide : goal.returns-in-Divide

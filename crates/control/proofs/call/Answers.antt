@@ -4,7 +4,6 @@ use Prim.Native.Nat.{◌+◌}
 use native.Mathlib.Omega.{arith}
 use lib.ListN.{length-set}
 use borrow.Author.Tests.{lt-ltb, le-ltb, eq-eqb, ne_eqb}
-use borrow.Author.Rules.{rules}
 use Rattle.language.specs.Effects.{on_call}
 use Rattle.language.specs.Tables.{table_from}
 use Rattle.operands.proofs.Operands.{exit-le}
@@ -44,12 +43,12 @@ returns-then-bars c =
 
 pub overflow_cast-frames-then-d-lt-CALLS-2 : goal.overflow_cast-frames-then-d-lt-CALLS-2
 overflow_cast-frames-then-d-lt-CALLS-2 c =
-        record { fits = omega (arith, c.exit_of-f.ensures, exit-le (table_from c.args.cells.now c.args.base c.args.end) c.args.m.at, c.requires.inside.used) }
+    record { fits = omega (arith, c.exit_of-f.ensures, exit-le (table_from c.args.cells.now c.args.base c.args.end) c.args.m.at, c.requires.inside.used) }
 
 pub returns-then-d-lt-CALLS : goal.returns-then-d-lt-CALLS
 unfolding on_call
 returns-then-d-lt-CALLS c =
-        let m = c.args.m in
+    let m = c.args.m in
     let fr = c.args.frames.now in
     record {
       turns = λ h.
@@ -70,7 +69,7 @@ returns-then-d-lt-CALLS c =
 pub returns-else-d-lt-CALLS : goal.returns-else-d-lt-CALLS
 unfolding on_call
 returns-else-d-lt-CALLS c =
-        record {
+    record {
       turns = λ h.
           rw (
             call-read,

@@ -80,6 +80,6 @@ pub returns : goal.returns
 returns c =
     let tab : Table = table_from c.args.cells.now c.args.base c.args.end in
     λ h.
-        let k = c.if-at-end.false in
+    let k = c.if-at-end.false in
     let j = c.if-at-end-2.false in
     rw (c.stop-2.ensures, decode-zero tab c.args.m.at c.if-at-lt-CODE_START.false (omega arith) c.requires.byte)

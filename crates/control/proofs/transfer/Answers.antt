@@ -19,7 +19,7 @@ pub returns-then-n-eq0 : goal.returns-then-n-eq0
 returns-then-n-eq0 c =
     let aimed : let a = c.args in
     target_of (cell (table_from a.cells.now a.base a.end) a.m.at) a.end ≡ c.target-n.result =
-      let a = c.args in
+    let a = c.args in
     let l = a.cells.now in
     let i = a.base + a.m.at - 1 in
     let e : to_z w32 (of_z w32 (get_or l i (pos 0))) ≡ get_or l i (pos 0) = search rules in
@@ -30,7 +30,7 @@ pub returns-then-m-eq0 : goal.returns-then-m-eq0
 returns-then-m-eq0 c =
     let aimed : let a = c.args in
     target_of (cell (table_from a.cells.now a.base a.end) a.m.at) a.end ≡ c.target-n.result =
-      let a = c.args in
+    let a = c.args in
     let l = a.cells.now in
     let i = a.base + a.m.at - 1 in
     let e : to_z w32 (of_z w32 (get_or l i (pos 0))) ≡ get_or l i (pos 0) = search rules in
@@ -41,7 +41,7 @@ pub returns : goal.returns
 returns c =
     let aimed : let a = c.args in
     target_of (cell (table_from a.cells.now a.base a.end) a.m.at) a.end ≡ c.target-n.result =
-      let a = c.args in
+    let a = c.args in
     let l = a.cells.now in
     let i = a.base + a.m.at - 1 in
     let e : to_z w32 (of_z w32 (get_or l i (pos 0))) ≡ get_or l i (pos 0) = search rules in

@@ -28,7 +28,7 @@ returns-then-negated-eq0 c =
     let tab : Table = table_from c.args.cells.now c.args.base c.args.end in
     let read : (n i : ℕ) → i + 1 ≡ c.args.base + n → 0 < n → n ≤ max_cells → cell tab n ≡ get_or c.args.cells.now i (pos 0) = λ n i e h k. cell_at c.args.cells.now c.args.base c.args.end n i h k e in
     let limits : limit_of (cell tab (suc Q)) ≡ c.negated.result =
-      let i = c.args.base + Q in
+    let i = c.args.base + Q in
     let b : to_z w32 (of_z w32 (get_or c.args.cells.now i (pos 0))) ≡ get_or c.args.cells.now i (pos 0) = search rules in
     ap limit_of (read (suc Q) i (omega arith) (omega arith) (omega arith) ∙ sym b) ∙ sym c.negated.ensures in
     sym (ap (λ d. end_of d Q) (count-read _ _ ∙ counter-number _ _ _ _ _ c.if-end-at.false (limits ∙ c.if-negated-eq0.true)))
@@ -39,11 +39,11 @@ returns-then-bounded-eq-COUNTERS c =
     let tab : Table = table_from c.args.cells.now c.args.base c.args.end in
     let read : (n i : ℕ) → i + 1 ≡ c.args.base + n → 0 < n → n ≤ max_cells → cell tab n ≡ get_or c.args.cells.now i (pos 0) = λ n i e h k. cell_at c.args.cells.now c.args.base c.args.end n i h k e in
     let limits : limit_of (cell tab (suc Q)) ≡ c.negated.result =
-      let i = c.args.base + Q in
+    let i = c.args.base + Q in
     let b : to_z w32 (of_z w32 (get_or c.args.cells.now i (pos 0))) ≡ get_or c.args.cells.now i (pos 0) = search rules in
     ap limit_of (read (suc Q) i (omega arith) (omega arith) (omega arith) ∙ sym b) ∙ sym c.negated.ensures in
     let orders : order_of (cell tab (suc (suc Q))) ≡ c.bounded.result =
-      let i = c.args.base + Q + 1 in
+    let i = c.args.base + Q + 1 in
     let b : to_z w32 (of_z w32 (get_or c.args.cells.now i (pos 0))) ≡ get_or c.args.cells.now i (pos 0) = search rules in
     ap (λ (z : ℤ). order_of z) (read (suc (suc Q)) i (omega arith) (omega arith) (omega arith) ∙ sym b) ∙ sym c.bounded.ensures in
     sym (ap (λ d. end_of d Q) (count-read _ _ ∙ counter-order _ _ _ _ _ c.if-end-at.false
@@ -55,16 +55,16 @@ returns-then-target-eq0 c =
     let tab : Table = table_from c.args.cells.now c.args.base c.args.end in
     let read : (n i : ℕ) → i + 1 ≡ c.args.base + n → 0 < n → n ≤ max_cells → cell tab n ≡ get_or c.args.cells.now i (pos 0) = λ n i e h k. cell_at c.args.cells.now c.args.base c.args.end n i h k e in
     let exits : target_of (cell tab (suc (suc (suc Q)))) tab.used ≡ c.target.result =
-      let i = c.args.base + Q + 2 in
+    let i = c.args.base + Q + 2 in
     let b : to_z w32 (of_z w32 (get_or c.args.cells.now i (pos 0))) ≡ get_or c.args.cells.now i (pos 0) = search rules in
     ap (λ (z : ℤ). target_of z tab.used) (read (suc (suc (suc Q))) i (omega arith) (omega arith) (omega arith) ∙ sym b)
     ∙ sym c.target.ensures in
     let limits : limit_of (cell tab (suc Q)) ≡ c.negated.result =
-      let i = c.args.base + Q in
+    let i = c.args.base + Q in
     let b : to_z w32 (of_z w32 (get_or c.args.cells.now i (pos 0))) ≡ get_or c.args.cells.now i (pos 0) = search rules in
     ap limit_of (read (suc Q) i (omega arith) (omega arith) (omega arith) ∙ sym b) ∙ sym c.negated.ensures in
     let orders : order_of (cell tab (suc (suc Q))) ≡ c.bounded.result =
-      let i = c.args.base + Q + 1 in
+    let i = c.args.base + Q + 1 in
     let b : to_z w32 (of_z w32 (get_or c.args.cells.now i (pos 0))) ≡ get_or c.args.cells.now i (pos 0) = search rules in
     ap (λ (z : ℤ). order_of z) (read (suc (suc Q)) i (omega arith) (omega arith) (omega arith) ∙ sym b) ∙ sym c.bounded.ensures in
     sym (ap (λ d. end_of d Q) (count-read _ _ ∙ counter-false _ _ _ _ _ c.if-end-at.false
@@ -76,16 +76,16 @@ returns c =
     let tab : Table = table_from c.args.cells.now c.args.base c.args.end in
     let read : (n i : ℕ) → i + 1 ≡ c.args.base + n → 0 < n → n ≤ max_cells → cell tab n ≡ get_or c.args.cells.now i (pos 0) = λ n i e h k. cell_at c.args.cells.now c.args.base c.args.end n i h k e in
     let exits : target_of (cell tab (suc (suc (suc Q)))) tab.used ≡ c.target.result =
-      let i = c.args.base + Q + 2 in
+    let i = c.args.base + Q + 2 in
     let b : to_z w32 (of_z w32 (get_or c.args.cells.now i (pos 0))) ≡ get_or c.args.cells.now i (pos 0) = search rules in
     ap (λ (z : ℤ). target_of z tab.used) (read (suc (suc (suc Q))) i (omega arith) (omega arith) (omega arith) ∙ sym b)
     ∙ sym c.target.ensures in
     let limits : limit_of (cell tab (suc Q)) ≡ c.negated.result =
-      let i = c.args.base + Q in
+    let i = c.args.base + Q in
     let b : to_z w32 (of_z w32 (get_or c.args.cells.now i (pos 0))) ≡ get_or c.args.cells.now i (pos 0) = search rules in
     ap limit_of (read (suc Q) i (omega arith) (omega arith) (omega arith) ∙ sym b) ∙ sym c.negated.ensures in
     let orders : order_of (cell tab (suc (suc Q))) ≡ c.bounded.result =
-      let i = c.args.base + Q + 1 in
+    let i = c.args.base + Q + 1 in
     let b : to_z w32 (of_z w32 (get_or c.args.cells.now i (pos 0))) ≡ get_or c.args.cells.now i (pos 0) = search rules in
     ap (λ (z : ℤ). order_of z) (read (suc (suc Q)) i (omega arith) (omega arith) (omega arith) ∙ sym b) ∙ sym c.bounded.ensures in
     sym (ap (λ d. end_of d Q) (count-read _ _ ∙ counter-good _ _ _ _ _ c.if-end-at.false

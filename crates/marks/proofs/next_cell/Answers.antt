@@ -19,7 +19,6 @@ use Rattle.marks.specs.declared.Format.{Format}
 use Rattle.marks.specs.declared.Format.TheVariants.{Bare, Digit, Value, Exit, Counter, Bytes, Transfer, NoCode}
 use Rattle.marks.specs.Formats.{end_of}
 use Rattle.marks.proofs.Marks.{format_end, format-end}
-use Rattle.marks.proofs.next_cell.Reads as reads
 use Rattle.marks.proofs.next_cell.Goals as goal
 
 -- a number that is read, and is 0 or not
@@ -38,7 +37,7 @@ returns-then-digit_at-eq0 c =
     let tab : Table = table_from c.args.cells.now c.args.base c.args.end in
     let ends : Format → ℕ = λ f. format_end c.args.cells.now c.args.base c.args.end Q c.requires.inside.first c.requires.inside.early c.requires.inside.used f in
     let told : (f : Format) → c.args.f ≡ f → ends f ≡ end_of (decode tab Q) Q =
-      λ f e. ap ends (sym e ∙ c.requires.format)
+    λ f e. ap ends (sym e ∙ c.requires.format)
     ∙ sym (format-end c.args.cells.now c.args.base c.args.end Q c.requires.inside.first c.requires.inside.early c.requires.inside.used) in
     none _ _ (sym c.digit_at.ensures ∙ c.if-digit_at-eq0.true) ∙ told Digit c.in-Digit.is
 
@@ -54,7 +53,7 @@ returns-then-exit_of-eq0 c =
     let tab : Table = table_from c.args.cells.now c.args.base c.args.end in
     let ends : Format → ℕ = λ f. format_end c.args.cells.now c.args.base c.args.end Q c.requires.inside.first c.requires.inside.early c.requires.inside.used f in
     let told : (f : Format) → c.args.f ≡ f → ends f ≡ end_of (decode tab Q) Q =
-      λ f e. ap ends (sym e ∙ c.requires.format)
+    λ f e. ap ends (sym e ∙ c.requires.format)
     ∙ sym (format-end c.args.cells.now c.args.base c.args.end Q c.requires.inside.first c.requires.inside.early c.requires.inside.used) in
     none _ _ (sym c.exit_of.ensures ∙ c.if-exit_of-eq0.true) ∙ told Exit c.in-Exit.is
 
@@ -69,14 +68,14 @@ returns-then-target-eq0 c =
     let Q : ℕ = c.args.at in
     let tab : Table = table_from c.args.cells.now c.args.base c.args.end in
     let reads-target : target_of (cell tab Q) c.args.end ≡ c.target.result =
-      let i = c.args.base + Q - 1 in
+    let i = c.args.base + Q - 1 in
     let b : to_z w32 (of_z w32 (get_or c.args.cells.now i (pos 0))) ≡ get_or c.args.cells.now i (pos 0) = search rules in
     ap (λ (z : ℤ). target_of z c.args.end)
     (cell_at c.args.cells.now c.args.base c.args.end Q i (omega (arith, c.requires.inside.first)) (omega (arith, c.requires.inside.early, c.requires.inside.used)) (omega (arith, c.requires.inside.first)) ∙ sym b)
     ∙ sym c.target.ensures in
     let ends : Format → ℕ = λ f. format_end c.args.cells.now c.args.base c.args.end Q c.requires.inside.first c.requires.inside.early c.requires.inside.used f in
     let told : (f : Format) → c.args.f ≡ f → ends f ≡ end_of (decode tab Q) Q =
-      λ f e. ap ends (sym e ∙ c.requires.format)
+    λ f e. ap ends (sym e ∙ c.requires.format)
     ∙ sym (format-end c.args.cells.now c.args.base c.args.end Q c.requires.inside.first c.requires.inside.early c.requires.inside.used) in
     none _ _ (reads-target ∙ c.if-target-eq0.true) ∙ told Transfer c.in-Transfer.is
 
@@ -86,7 +85,7 @@ returns-in-Bare c =
     let tab : Table = table_from c.args.cells.now c.args.base c.args.end in
     let ends : Format → ℕ = λ f. format_end c.args.cells.now c.args.base c.args.end Q c.requires.inside.first c.requires.inside.early c.requires.inside.used f in
     let told : (f : Format) → c.args.f ≡ f → ends f ≡ end_of (decode tab Q) Q =
-      λ f e. ap ends (sym e ∙ c.requires.format)
+    λ f e. ap ends (sym e ∙ c.requires.format)
     ∙ sym (format-end c.args.cells.now c.args.base c.args.end Q c.requires.inside.first c.requires.inside.early c.requires.inside.used) in
     told Bare c.in-Bare.is
 
@@ -96,7 +95,7 @@ returns-else-digit_at-eq0 c =
     let tab : Table = table_from c.args.cells.now c.args.base c.args.end in
     let ends : Format → ℕ = λ f. format_end c.args.cells.now c.args.base c.args.end Q c.requires.inside.first c.requires.inside.early c.requires.inside.used f in
     let told : (f : Format) → c.args.f ≡ f → ends f ≡ end_of (decode tab Q) Q =
-      λ f e. ap ends (sym e ∙ c.requires.format)
+    λ f e. ap ends (sym e ∙ c.requires.format)
     ∙ sym (format-end c.args.cells.now c.args.base c.args.end Q c.requires.inside.first c.requires.inside.early c.requires.inside.used) in
     some _ _ (λ z. c.if-digit_at-eq0.false (c.digit_at.ensures ∙ z)) ∙ told Digit c.in-Digit.is
 
@@ -106,7 +105,7 @@ returns-in-Value c =
     let tab : Table = table_from c.args.cells.now c.args.base c.args.end in
     let ends : Format → ℕ = λ f. format_end c.args.cells.now c.args.base c.args.end Q c.requires.inside.first c.requires.inside.early c.requires.inside.used f in
     let told : (f : Format) → c.args.f ≡ f → ends f ≡ end_of (decode tab Q) Q =
-      λ f e. ap ends (sym e ∙ c.requires.format)
+    λ f e. ap ends (sym e ∙ c.requires.format)
     ∙ sym (format-end c.args.cells.now c.args.base c.args.end Q c.requires.inside.first c.requires.inside.early c.requires.inside.used) in
     c.value_end.ensures ∙ told Value c.in-Value.is
 
@@ -116,7 +115,7 @@ returns-else-exit_of-eq0 c =
     let tab : Table = table_from c.args.cells.now c.args.base c.args.end in
     let ends : Format → ℕ = λ f. format_end c.args.cells.now c.args.base c.args.end Q c.requires.inside.first c.requires.inside.early c.requires.inside.used f in
     let told : (f : Format) → c.args.f ≡ f → ends f ≡ end_of (decode tab Q) Q =
-      λ f e. ap ends (sym e ∙ c.requires.format)
+    λ f e. ap ends (sym e ∙ c.requires.format)
     ∙ sym (format-end c.args.cells.now c.args.base c.args.end Q c.requires.inside.first c.requires.inside.early c.requires.inside.used) in
     some _ _ (λ z. c.if-exit_of-eq0.false (c.exit_of.ensures ∙ z)) ∙ told Exit c.in-Exit.is
 
@@ -126,7 +125,7 @@ returns-in-Counter c =
     let tab : Table = table_from c.args.cells.now c.args.base c.args.end in
     let ends : Format → ℕ = λ f. format_end c.args.cells.now c.args.base c.args.end Q c.requires.inside.first c.requires.inside.early c.requires.inside.used f in
     let told : (f : Format) → c.args.f ≡ f → ends f ≡ end_of (decode tab Q) Q =
-      λ f e. ap ends (sym e ∙ c.requires.format)
+    λ f e. ap ends (sym e ∙ c.requires.format)
     ∙ sym (format-end c.args.cells.now c.args.base c.args.end Q c.requires.inside.first c.requires.inside.early c.requires.inside.used) in
     c.counter_end.ensures ∙ told Counter c.in-Counter.is
 
@@ -136,7 +135,7 @@ returns-in-Bytes c =
     let tab : Table = table_from c.args.cells.now c.args.base c.args.end in
     let ends : Format → ℕ = λ f. format_end c.args.cells.now c.args.base c.args.end Q c.requires.inside.first c.requires.inside.early c.requires.inside.used f in
     let told : (f : Format) → c.args.f ≡ f → ends f ≡ end_of (decode tab Q) Q =
-      λ f e. ap ends (sym e ∙ c.requires.format)
+    λ f e. ap ends (sym e ∙ c.requires.format)
     ∙ sym (format-end c.args.cells.now c.args.base c.args.end Q c.requires.inside.first c.requires.inside.early c.requires.inside.used) in
     c.print_end.ensures ∙ told Bytes c.in-Bytes.is
 
@@ -145,14 +144,14 @@ returns-else-target-eq0 c =
     let Q : ℕ = c.args.at in
     let tab : Table = table_from c.args.cells.now c.args.base c.args.end in
     let reads-target : target_of (cell tab Q) c.args.end ≡ c.target.result =
-      let i = c.args.base + Q - 1 in
+    let i = c.args.base + Q - 1 in
     let b : to_z w32 (of_z w32 (get_or c.args.cells.now i (pos 0))) ≡ get_or c.args.cells.now i (pos 0) = search rules in
     ap (λ (z : ℤ). target_of z c.args.end)
     (cell_at c.args.cells.now c.args.base c.args.end Q i (omega (arith, c.requires.inside.first)) (omega (arith, c.requires.inside.early, c.requires.inside.used)) (omega (arith, c.requires.inside.first)) ∙ sym b)
     ∙ sym c.target.ensures in
     let ends : Format → ℕ = λ f. format_end c.args.cells.now c.args.base c.args.end Q c.requires.inside.first c.requires.inside.early c.requires.inside.used f in
     let told : (f : Format) → c.args.f ≡ f → ends f ≡ end_of (decode tab Q) Q =
-      λ f e. ap ends (sym e ∙ c.requires.format)
+    λ f e. ap ends (sym e ∙ c.requires.format)
     ∙ sym (format-end c.args.cells.now c.args.base c.args.end Q c.requires.inside.first c.requires.inside.early c.requires.inside.used) in
     some _ _ (λ z. c.if-target-eq0.false (sym reads-target ∙ z)) ∙ told Transfer c.in-Transfer.is
 
@@ -162,6 +161,6 @@ returns-in-NoCode c =
     let tab : Table = table_from c.args.cells.now c.args.base c.args.end in
     let ends : Format → ℕ = λ f. format_end c.args.cells.now c.args.base c.args.end Q c.requires.inside.first c.requires.inside.early c.requires.inside.used f in
     let told : (f : Format) → c.args.f ≡ f → ends f ≡ end_of (decode tab Q) Q =
-      λ f e. ap ends (sym e ∙ c.requires.format)
+    λ f e. ap ends (sym e ∙ c.requires.format)
     ∙ sym (format-end c.args.cells.now c.args.base c.args.end Q c.requires.inside.first c.requires.inside.early c.requires.inside.used) in
     told NoCode c.in-NoCode.is

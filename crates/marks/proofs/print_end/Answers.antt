@@ -33,7 +33,7 @@ returns-then-end-at-2 c =
     let from : ℕ = c.args.base + c.args.at + 1 in
     let tab : Table = table_from c.args.cells.now c.args.base c.args.end in
     let reading : mark tab c.args.at is_print ≡ print_at c.args.cells.now from c.args.end c.args.at c.bounded-n.result =
-      let l = c.args.cells.now in
+    let l = c.args.cells.now in
     let i = c.args.base + c.args.at in
     let b : to_z w32 (of_z w32 (get_or l i (pos 0))) ≡ get_or l i (pos 0) = search rules in
     print-read l c.args.base c.args.end c.args.at from refl c.requires.used
@@ -46,7 +46,7 @@ returns-then-prints c =
     let from : ℕ = c.args.base + c.args.at + 1 in
     let tab : Table = table_from c.args.cells.now c.args.base c.args.end in
     let reading : mark tab c.args.at is_print ≡ print_at c.args.cells.now from c.args.end c.args.at c.bounded-n.result =
-      let l = c.args.cells.now in
+    let l = c.args.cells.now in
     let i = c.args.base + c.args.at in
     let b : to_z w32 (of_z w32 (get_or l i (pos 0))) ≡ get_or l i (pos 0) = search rules in
     print-read l c.args.base c.args.end c.args.at from refl c.requires.used
@@ -59,7 +59,7 @@ returns-else-prints c =
     let from : ℕ = c.args.base + c.args.at + 1 in
     let tab : Table = table_from c.args.cells.now c.args.base c.args.end in
     let reading : mark tab c.args.at is_print ≡ print_at c.args.cells.now from c.args.end c.args.at c.bounded-n.result =
-      let l = c.args.cells.now in
+    let l = c.args.cells.now in
     let i = c.args.base + c.args.at in
     let b : to_z w32 (of_z w32 (get_or l i (pos 0))) ≡ get_or l i (pos 0) = search rules in
     print-read l c.args.base c.args.end c.args.at from refl c.requires.used

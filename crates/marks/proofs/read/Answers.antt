@@ -13,7 +13,7 @@ use Rattle.language.specs.Machine.{cell}
 use Rattle.language.specs.Tables.{table_from}
 use Rattle.operands.proofs.Tables.{cell_at, cell-next}
 use Rattle.marks.specs.Formats.{format_of, called_as, ticked}
-use Rattle.marks.proofs.Marks.{byte_le, Reading, reading-none, reading-broken, reading-further, reading-more, reading-unclosed, reading-unended, reading-done}
+use Rattle.marks.proofs.Marks.{byte_le, reading-none, reading-broken, reading-further, reading-more, reading-unclosed, reading-unended, reading-done}
 use Rattle.marks.proofs.read.Goals as goal
 
 pub loop-at-init : goal.loop-at-init
@@ -114,7 +114,7 @@ returns-then-cells-base-ne1 c =
     let tab : Table = table_from c.args.cells.now c.args.base c.args.end in
     let first : cell tab at ≡ element (c.args.base + at - 1) = cell_at c.args.cells.now c.args.base c.args.end at (c.args.base + at - 1) (omega (arith, c.loop-at.invariant.low)) (omega (arith, near, c.requires.high)) (omega (arith, c.loop-at.invariant.low)) in
     let is_zero : let e = element (c.args.base + at - 1) in of_z w32 e ≡ 0 → e ≡ pos 0 =
-      λ k. let e = element (c.args.base + at - 1) in
+    λ k. let e = element (c.args.base + at - 1) in
     let b : to_z w32 (of_z w32 e) ≡ e = search rules in
     sym b ∙ ap (to_z w32) k in
     let second : cell tab (suc at) ≡ element (c.args.base + at) = cell-next c.args.cells.now c.args.base c.args.end at (omega (arith, near, c.requires.high)) in
@@ -129,11 +129,11 @@ returns c =
     let tab : Table = table_from c.args.cells.now c.args.base c.args.end in
     let first : cell tab at ≡ element (c.args.base + at - 1) = cell_at c.args.cells.now c.args.base c.args.end at (c.args.base + at - 1) (omega (arith, c.loop-at.invariant.low)) (omega (arith, near, c.requires.high)) (omega (arith, c.loop-at.invariant.low)) in
     let is_one : let e = element (c.args.base + at) in of_z w32 e ≡ 1 → e ≡ pos 1 =
-      λ k. let e = element (c.args.base + at) in
+    λ k. let e = element (c.args.base + at) in
     let b : to_z w32 (of_z w32 e) ≡ e = search rules in
     sym b ∙ ap (to_z w32) k in
     let is_zero : let e = element (c.args.base + at - 1) in of_z w32 e ≡ 0 → e ≡ pos 0 =
-      λ k. let e = element (c.args.base + at - 1) in
+    λ k. let e = element (c.args.base + at - 1) in
     let b : to_z w32 (of_z w32 e) ≡ e = search rules in
     sym b ∙ ap (to_z w32) k in
     let second : cell tab (suc at) ≡ element (c.args.base + at) = cell-next c.args.cells.now c.args.base c.args.end at (omega (arith, near, c.requires.high)) in

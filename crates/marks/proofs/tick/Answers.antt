@@ -1,6 +1,5 @@
 -- `marks::tick` meets its contract.
 use native.Mathlib.Omega.{arith}
-use borrow.Author.Rules.{rules}
 use Rattle.language.specs.Letters.{first_letter, last_letter}
 use Rattle.language.proofs.Between.{between-low, between-high, between-true}
 use Rattle.marks.proofs.tick.Goals as goal

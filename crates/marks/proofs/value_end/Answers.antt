@@ -22,7 +22,7 @@ pub returns-then-is_value : goal.returns-then-is_value
 returns-then-is_value c =
     let X : ℤ = get_or c.args.cells.now (c.args.base + c.args.at) (pos 0) in
     let test : is_value (cell (table_from c.args.cells.now c.args.base c.args.end) (suc c.args.at)) ≡ c.is_value.result =
-      let b : to_z w32 (of_z w32 X) ≡ X = search rules in
+    let b : to_z w32 (of_z w32 X) ≡ X = search rules in
     sym (c.is_value.ensures ∙ ap is_value (b ∙ sym (cell-next c.args.cells.now c.args.base c.args.end c.args.at (omega arith)))) in
     rw (constant-read, le-ltb _ _ c.if-end-at.false, test ∙ c.if-is_value.true)
 
@@ -30,6 +30,6 @@ pub returns-else-is_value : goal.returns-else-is_value
 returns-else-is_value c =
     let X : ℤ = get_or c.args.cells.now (c.args.base + c.args.at) (pos 0) in
     let test : is_value (cell (table_from c.args.cells.now c.args.base c.args.end) (suc c.args.at)) ≡ c.is_value.result =
-      let b : to_z w32 (of_z w32 X) ≡ X = search rules in
+    let b : to_z w32 (of_z w32 X) ≡ X = search rules in
     sym (c.is_value.ensures ∙ ap is_value (b ∙ sym (cell-next c.args.cells.now c.args.base c.args.end c.args.at (omega arith)))) in
     rw (constant-read, le-ltb _ _ c.if-end-at.false, test ∙ c.if-is_value.false)

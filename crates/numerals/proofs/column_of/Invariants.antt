@@ -1,7 +1,6 @@
 -- `column_of` meets its contract. The loop's invariant: the digits that stand are the last of the number's. The measure is what is left of the number.
-use native.Mathlib.Omega.{arith}
 use lib.ListN.{drop}
-use Rattle.numerals.proofs.Decimals.{Rendering, begin, step, two_steps, last, last-two, last-two-minus, minus-put}
+use Rattle.numerals.proofs.Decimals.{Rendering}
 use Rattle.numerals.proofs.column_of.Given as goal
 
 abbrev pub invariant-loop-n : goal.invariant-loop-n

@@ -15,11 +15,11 @@ overflow_sub-result c = rw (widened_is c.args.v c.ranges.v) (opposite-fits c.arg
 
 pub overflow_cast-result : goal.overflow_cast-result
 overflow_cast-result c =
-        rw (distance-below c.args.v c.ranges.v c.if-w-lt0.true) (tt, record { fits = omega (arith, bound32 c.args.v c.ranges.v) })
+    rw (distance-below c.args.v c.ranges.v c.if-w-lt0.true) (tt, record { fits = omega (arith, bound32 c.args.v c.ranges.v) })
 
 pub overflow_cast-result-else-w-lt0 : goal.overflow_cast-result-else-w-lt0
 overflow_cast-result-else-w-lt0 c =
-        rw (distance-above c.args.v c.ranges.v c.if-w-lt0.false) (tt, record { fits = omega (arith, bound32 c.args.v c.ranges.v) })
+    rw (distance-above c.args.v c.ranges.v c.if-w-lt0.false) (tt, record { fits = omega (arith, bound32 c.args.v c.ranges.v) })
 
 pub returns-then-w-lt0 : goal.returns-then-w-lt0
 returns-then-w-lt0 c = ap nat_abs (distance-below c.args.v c.ranges.v c.if-w-lt0.true)

@@ -1,7 +1,6 @@
 -- `money_column` meets its contract.
 use native.Mathlib.Omega.{arith}
 use mir.Facts.{to_z-of_z}
-use borrow.Author.Rules.{rules}
 use Rattle.numerals.proofs.Decimals.{roomy, money-whole}
 use Rattle.numerals.proofs.money_column.Goals as goal
 
@@ -13,6 +12,6 @@ column_of-column-requires c = roomy _ _ _ (omega arith) c.cents_column-ending.en
 
 pub returns : goal.returns
 returns c =
-                let fits = to_z-of_z c.ranges.value in
+    let fits = to_z-of_z c.ranges.value in
     money-whole c.args.value c.distance-n.result _ _ _ (rw fits at c.distance-n.ensures) c.cents_column-ending.ensures
     (rw fits at c.column_of-column.ensures)

@@ -1,10 +1,7 @@
 -- `read_digits` meets its contract. The loop's invariant: the digits before the place are read.
-use Prim.Native.Nat.{◌-◌}
 use native.Mathlib.Omega.{arith}
-use lib.ListN.{length}
-use borrow.Author.Rules.{rules}
 use borrow.Author.Tests.{ltb-true, ltb-false}
-use Rattle.numerals.proofs.Numerals.{Reading, reading-none, reading-more, reading-done, digit_low, digit-high, pow-up}
+use Rattle.numerals.proofs.Numerals.{reading-none, reading-more, reading-done, digit_low, digit-high, pow-up}
 use Rattle.numerals.proofs.read_digits.Goals as goal
 
 pub loop-at-init : goal.loop-at-init

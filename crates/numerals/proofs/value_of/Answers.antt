@@ -1,6 +1,5 @@
 -- `value_of` meets its contract.
 use native.Mathlib.Omega.{arith}
-use borrow.Author.Rules.{rules}
 use Rattle.numerals.proofs.Ints.{value-far, minus-fits, minus_is, plain-is}
 use Rattle.numerals.proofs.value_of.Goals as goal
 

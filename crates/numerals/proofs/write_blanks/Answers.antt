@@ -1,13 +1,12 @@
 -- `write_blanks` meets its contract. The loop's invariant: the first i blanks are copied.
 use mathlib.Core.Path.{refl, sym, ap, ◌∙◌}
-use Prim.Native.Nat.{◌+◌, ◌-◌, ◌≤◌}
+use Prim.Native.Nat.{◌+◌, ◌≤◌}
 use native.Mathlib.Omega.{arith}
-use lib.ListN.{length, replicate, length-replicate, get_or-replicate}
+use lib.ListN.{length, length-replicate, get_or-replicate}
 use lib.Dec.{leb}
-use borrow.Author.Rules.{rules}
-use borrow.Author.Tests.{leb-true, not-true, not-false}
+use borrow.Author.Tests.{leb-true}
 use Rattle.language.specs.Bytes.{blank_byte}
-use Rattle.language.proofs.Copies.{Pasting, pasting-none, pasting-more}
+use Rattle.language.proofs.Copies.{pasting-none, pasting-more}
 use Rattle.numerals.proofs.Numerals.{pasted, written-no-room}
 use Rattle.numerals.proofs.write_blanks.Goals as goal
 

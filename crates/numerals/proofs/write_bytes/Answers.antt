@@ -1,11 +1,8 @@
 -- `write_bytes` meets its contract. The loop's invariant: the first i bytes are copied.
 use mathlib.Core.Path.{refl, sym, ◌∙◌}
-use Prim.Native.Nat.{◌-◌}
 use native.Mathlib.Omega.{arith}
-use lib.ListN.{length}
-use borrow.Author.Rules.{rules}
-use borrow.Author.Tests.{leb-true, not-true, not-false}
-use Rattle.language.proofs.Copies.{Pasting, pasting-none, pasting-more}
+use borrow.Author.Tests.{leb-true}
+use Rattle.language.proofs.Copies.{pasting-none, pasting-more}
 use Rattle.numerals.proofs.Numerals.{pasted, written-no-room}
 use Rattle.numerals.proofs.write_bytes.Goals as goal
 

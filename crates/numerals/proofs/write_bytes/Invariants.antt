@@ -1,12 +1,7 @@
 -- `write_bytes` meets its contract. The loop's invariant: the first i bytes are copied.
-use mathlib.Core.Path.{refl, sym, ◌∙◌}
 use Prim.Native.Nat.{◌-◌}
-use native.Mathlib.Omega.{arith}
 use lib.ListN.{length}
-use borrow.Author.Rules.{rules}
-use borrow.Author.Tests.{leb-true, not-true, not-false}
-use Rattle.language.proofs.Copies.{Pasting, pasting-none, pasting-more}
-use Rattle.numerals.proofs.Numerals.{pasted, written-no-room}
+use Rattle.language.proofs.Copies.{Pasting}
 use Rattle.numerals.proofs.write_bytes.Given as goal
 
 abbrev pub invariant-loop-i : goal.invariant-loop-i

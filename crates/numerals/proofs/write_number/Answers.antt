@@ -1,8 +1,6 @@
 -- `write_number` meets its contract.
 use mathlib.Core.Path.{sym, ◌∙◌}
 use mathlib.Core.List.{append-nil}
-use borrow.Author.Rules.{rules}
-use borrow.Author.Tests.{not-true, not-false}
 use Rattle.numerals.proofs.Numerals.{number-no-room, number-written}
 use Rattle.numerals.proofs.write_number.Goals as goal
 
@@ -13,7 +11,7 @@ returns-then-not-fits c =
 
 pub returns : goal.returns
 returns c =
-            number-written _ _ _ _ _ _ _ (rw append-nil at c.column_of-column.ensures) c.blanks_before-blanks.ensures
+    number-written _ _ _ _ _ _ _ (rw append-nil at c.column_of-column.ensures) c.blanks_before-blanks.ensures
     (sym c.fits.ensures ∙ c.if-not-fits.false)
     c.write_blanks-first.ensures
     c.write_bytes.ensures

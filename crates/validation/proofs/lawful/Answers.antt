@@ -1,15 +1,13 @@
 -- `validation::lawful` meets its contract: what is left of the list decides.
-use borrow.Author.Tests.{not-true, not-false}
 use mir.Syntax.{w32}
 use mir.Val.{to_z, of_z}
 use lib.IntN.{pos}
-use Rattle.language.specs.Values.{is_value, lawful}
+use Rattle.language.specs.Values.{is_value}
 use mathlib.Core.Path.{◌≡◌, refl, sym, ap, ◌∙◌}
-use Prim.Native.Nat.{◌-◌}
 use native.Mathlib.Omega.{arith}
-use lib.ListN.{length, get_or}
+use lib.ListN.{get_or}
 use borrow.Author.Rules.{rules}
-use Rattle.validation.proofs.Values.{Passed, lawful-false, lawful-on, lawful-end}
+use Rattle.validation.proofs.Values.{lawful-false, lawful-on, lawful-end}
 use Rattle.validation.proofs.lawful.Goals as goal
 
 pub loop-i-init : goal.loop-i-init
@@ -23,7 +21,7 @@ bounds-values-i c = omega arith
 
 pub returns-then-not-is_value : goal.returns-then-not-is_value
 returns-then-not-is_value c =
-        let v = get_or c.args.values.now c.loop-i.i (pos 0) in
+    let v = get_or c.args.values.now c.loop-i.i (pos 0) in
     let e : to_z w32 (of_z w32 v) ≡ v = search rules in
     lawful-false _ c.loop-i.i c.loop-i.invariant (omega arith) (ap is_value (sym e) ∙ sym c.is_value.ensures ∙ c.if-not-is_value.true)
 
@@ -35,7 +33,7 @@ loop-i-smaller c = omega arith
 
 pub loop-i-preserved : goal.loop-i-preserved
 loop-i-preserved c =
-        let v = get_or c.args.values.now c.loop-i.i (pos 0) in
+    let v = get_or c.args.values.now c.loop-i.i (pos 0) in
     let e : to_z w32 (of_z w32 v) ≡ v = search rules in
     (lawful-on _ c.loop-i.i c.loop-i.invariant (omega arith) (ap is_value (sym e) ∙ sym c.is_value.ensures ∙ c.if-not-is_value.false))
 

@@ -1,12 +1,7 @@
 -- `validation::sound_permissions` meets its contract: what is left of the list decides.
-use borrow.Author.Tests.{not-true, not-false}
 use mathlib.Core.Path.{refl, sym, ◌∙◌}
-use Prim.Native.Nat.{◌-◌}
 use native.Mathlib.Omega.{arith}
-use lib.ListN.{length}
-use borrow.Author.Rules.{rules}
-use Rattle.language.specs.Tables.{sound_permissions}
-use Rattle.validation.proofs.Values.{Passed, permissions-false, permissions-on, permissions-end}
+use Rattle.validation.proofs.Values.{permissions-false, permissions-on, permissions-end}
 use Rattle.validation.proofs.sound_permissions.Goals as goal
 
 pub loop-i-init : goal.loop-i-init
@@ -20,7 +15,7 @@ bounds-permissions-i c = omega arith
 
 pub returns-then-not-is_permission : goal.returns-then-not-is_permission
 returns-then-not-is_permission c =
-        permissions-false _ c.loop-i.i c.loop-i.invariant (omega arith) (sym c.is_permission.ensures ∙ c.if-not-is_permission.true)
+    permissions-false _ c.loop-i.i c.loop-i.invariant (omega arith) (sym c.is_permission.ensures ∙ c.if-not-is_permission.true)
 
 pub overflow_add-i : goal.overflow_add-i
 overflow_add-i c = omega arith
@@ -30,7 +25,7 @@ loop-i-smaller c = omega arith
 
 pub loop-i-preserved : goal.loop-i-preserved
 loop-i-preserved c =
-        (permissions-on _ c.loop-i.i c.loop-i.invariant (omega arith) (sym c.is_permission.ensures ∙ c.if-not-is_permission.false))
+    (permissions-on _ c.loop-i.i c.loop-i.invariant (omega arith) (sym c.is_permission.ensures ∙ c.if-not-is_permission.false))
 
 pub returns : goal.returns
 returns c = permissions-end _ c.loop-i.i c.loop-i.invariant (omega arith)

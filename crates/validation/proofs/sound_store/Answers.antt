@@ -1,7 +1,5 @@
 -- `validation::sound_store` meets its contract.
 use mathlib.Core.Path.{sym, ◌∙◌}
-use borrow.Author.Tests.{not-true, not-false}
-use borrow.Author.Rules.{rules}
 use Rattle.validation.proofs.sound_store.Goals as goal
 
 pub returns-then-not-sound_used : goal.returns-then-not-sound_used

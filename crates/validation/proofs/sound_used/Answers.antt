@@ -1,12 +1,7 @@
 -- `validation::sound_used` meets its contract: what is left of the list decides.
-use borrow.Author.Tests.{not-true, not-false}
 use mathlib.Core.Path.{refl, sym, ◌∙◌}
-use Prim.Native.Nat.{◌-◌}
 use native.Mathlib.Omega.{arith}
-use lib.ListN.{length}
-use borrow.Author.Rules.{rules}
-use Rattle.language.specs.Tables.{sound_used}
-use Rattle.validation.proofs.Values.{Passed, used-false, used-on, used-end}
+use Rattle.validation.proofs.Values.{used-false, used-on, used-end}
 use Rattle.validation.proofs.sound_used.Goals as goal
 
 pub loop-i-init : goal.loop-i-init
@@ -20,7 +15,7 @@ bounds-used-i c = omega arith
 
 pub returns-then-not-sound_count : goal.returns-then-not-sound_count
 returns-then-not-sound_count c =
-        used-false _ c.loop-i.i c.loop-i.invariant (omega arith) (sym c.sound_count.ensures ∙ c.if-not-sound_count.true)
+    used-false _ c.loop-i.i c.loop-i.invariant (omega arith) (sym c.sound_count.ensures ∙ c.if-not-sound_count.true)
 
 pub overflow_add-i : goal.overflow_add-i
 overflow_add-i c = omega arith
@@ -30,7 +25,7 @@ loop-i-smaller c = omega arith
 
 pub loop-i-preserved : goal.loop-i-preserved
 loop-i-preserved c =
-        (used-on _ c.loop-i.i c.loop-i.invariant (omega arith) (sym c.sound_count.ensures ∙ c.if-not-sound_count.false))
+    (used-on _ c.loop-i.i c.loop-i.invariant (omega arith) (sym c.sound_count.ensures ∙ c.if-not-sound_count.false))
 
 pub returns : goal.returns
 returns c = used-end _ c.loop-i.i c.loop-i.invariant (omega arith)

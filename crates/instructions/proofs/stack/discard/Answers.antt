@@ -1,6 +1,5 @@
 -- `instructions::stack::discard` meets its contract.
 use borrow.Author.Tests.{lt-ltb, le-ltb, eq-eqb, ne_eqb}
-use borrow.Author.Rules.{rules}
 use Rattle.language.specs.Effects.{perform}
 use Rattle.instructions.proofs.stack.discard.Goals as goal
 

@@ -1,7 +1,6 @@
 -- `instructions::stack::push` meets its contract.
 use mir.Facts.{to_z-of_z}
 use borrow.Author.Tests.{lt-ltb, le-ltb}
-use borrow.Author.Rules.{rules}
 use Rattle.instructions.proofs.stack.push.Goals as goal
 
 pub returns-then-h-lt-HEIGHT : goal.returns-then-h-lt-HEIGHT

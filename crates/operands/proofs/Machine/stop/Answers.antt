@@ -1,5 +1,4 @@
 -- `operands::Machine::stop` meets its contract.
-use borrow.Author.Rules.{rules}
 use Rattle.operands.proofs.Machine.stop.Goals as goal
 
 pub returns : goal.returns

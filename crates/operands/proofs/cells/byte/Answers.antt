@@ -3,7 +3,6 @@ use mathlib.Core.Path.{◌≡◌, ◌∙◌}
 use mir.Syntax.{w32}
 use mir.Val.{to_z, of_z}
 use mir.Facts.{to_z-of_z}
-use borrow.Author.Rules.{rules}
 use Rattle.operands.proofs.Operands.{byte_high, byte-negated}
 use Rattle.operands.proofs.cells.byte.Goals as goal
 

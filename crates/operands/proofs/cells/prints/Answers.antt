@@ -1,16 +1,14 @@
 -- `operands::cells::prints` meets its contract. The loop's invariant: what is left to scan decides.
 use mathlib.Core.Path.{◌≡◌, sym, ◌∙◌}
-use Prim.Native.Nat.{ℕ, suc, ◌+◌, ◌-◌, ◌≤◌}
+use Prim.Native.Nat.{suc, ◌+◌, ◌-◌}
 use native.Mathlib.Omega.{arith}
-use mathlib.Core.List.{List}
-use lib.IntN.{ℤ, pos}
+use lib.IntN.{pos}
 use lib.ListN.{get_or}
 use mir.Syntax.{w32}
 use mir.Val.{to_z, of_z}
 use borrow.Author.Rules.{rules}
 use Rattle.operands.specs.Operands.{print_of, printable}
 use Rattle.operands.proofs.Operands.{printable-none, printable-break, printable-step}
-use Rattle.operands.proofs.cells.prints.Invariants.{Scanned}
 use Rattle.operands.proofs.cells.prints.Goals as goal
 
 pub loop-i-init : goal.loop-i-init

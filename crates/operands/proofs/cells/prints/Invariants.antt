@@ -1,15 +1,9 @@
 -- `operands::cells::prints` meets its contract. The loop's invariant: what is left to scan decides.
-use mathlib.Core.Path.{◌≡◌, sym, ◌∙◌}
-use Prim.Native.Nat.{ℕ, suc, ◌+◌, ◌-◌, ◌≤◌}
-use native.Mathlib.Omega.{arith}
+use mathlib.Core.Path.{◌≡◌}
+use Prim.Native.Nat.{ℕ, ◌+◌, ◌-◌, ◌≤◌}
 use mathlib.Core.List.{List}
-use lib.IntN.{ℤ, pos}
-use lib.ListN.{get_or}
-use mir.Syntax.{w32}
-use mir.Val.{to_z, of_z}
-use borrow.Author.Rules.{rules}
-use Rattle.operands.specs.Operands.{print_of, printable}
-use Rattle.operands.proofs.Operands.{printable-none, printable-break, printable-step}
+use lib.IntN.{ℤ}
+use Rattle.operands.specs.Operands.{printable}
 use Rattle.operands.proofs.cells.prints.Given as goal
 
 pub record Scanned (cells : List ℤ) (from n i : ℕ) : Type 0 where

@@ -1,16 +1,7 @@
 -- `paper::output::copy_cells` meets its contract. The loop's invariant: the first i bytes are pasted.
-use mathlib.Core.Path.{◌≡◌, refl, sym, ◌∙◌}
-use Prim.Native.Nat.{◌+◌, ◌-◌}
-use native.Mathlib.Omega.{arith}
-use lib.IntN.{ℤ, pos}
-use lib.ListN.{get_or}
-use mir.Syntax.{w32}
-use mir.Val.{to_z, of_z}
-use borrow.Author.Rules.{rules}
+use Prim.Native.Nat.{◌-◌}
 use Rattle.operands.specs.Operands.{prints_from}
-use Rattle.language.proofs.Copies.{Pasting, pasting-none, pasting-more, pasting-done}
-use Rattle.operands.proofs.Operands.{length-prints, get_or-prints}
-use Rattle.paper.proofs.Copies.{Castable, print-cell}
+use Rattle.language.proofs.Copies.{Pasting}
 use Rattle.paper.proofs.output.copy_cells.Given as goal
 
 abbrev pub invariant-loop-i : goal.invariant-loop-i

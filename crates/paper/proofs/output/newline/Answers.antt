@@ -3,7 +3,6 @@ use Prim.Native.Nat.{◌+◌}
 use native.Mathlib.Omega.{arith}
 use lib.ListN.{length}
 use borrow.Author.Tests.{le-leb, lt-leb, eq-eqb, ne_eqb}
-use borrow.Author.Rules.{rules}
 use Rattle.language.specs.Effects.{perform}
 use Rattle.paper.proofs.Effects.{paste-one}
 use Rattle.paper.proofs.output.newline.Goals as goal

@@ -7,7 +7,7 @@ use lib.ListN.{length, get_or}
 use lib.Seq.{paste}
 use mir.Syntax.{w32}
 use mir.Val.{to_z, of_z}
-use borrow.Author.Tests.{eq-eqb, not-true, not-false}
+use borrow.Author.Tests.{eq-eqb}
 use borrow.Author.Rules.{rules}
 use Rattle.language.specs.declared.Ending.TheVariants.{PaperOut}
 use Rattle.language.specs.declared.Table.{Table}
@@ -29,7 +29,7 @@ pub returns-then-end-at : goal.returns-then-end-at
 returns-then-end-at c =
     let from : ℕ = c.args.base + c.args.m.at + 1 in
     λ h.
-        rw (
+    rw (
       c.stop.ensures,
       print-read c.args.cells.now c.args.base c.args.end c.args.m.at from refl c.requires.inside.used,
       print-short _ _ _ _ _ c.if-end-at.true,
@@ -45,7 +45,7 @@ returns-then-end-at-2 c =
     let from : ℕ = c.args.base + c.args.m.at + 1 in
     let tab : Table = table_from c.args.cells.now c.args.base c.args.end in
     let reading : mark tab c.args.m.at is_print ≡ print_at c.args.cells.now from c.args.end c.args.m.at c.bounded-n.result =
-      let l = c.args.cells.now in
+    let l = c.args.cells.now in
     let i = c.args.base + c.args.m.at in
     let b : to_z w32 (of_z w32 (get_or l i (pos 0))) ≡ get_or l i (pos 0) = search rules in
     print-read l c.args.base c.args.end c.args.m.at from refl c.requires.inside.used
@@ -58,7 +58,7 @@ returns-then-not-prints c =
     let from : ℕ = c.args.base + c.args.m.at + 1 in
     let tab : Table = table_from c.args.cells.now c.args.base c.args.end in
     let reading : mark tab c.args.m.at is_print ≡ print_at c.args.cells.now from c.args.end c.args.m.at c.bounded-n.result =
-      let l = c.args.cells.now in
+    let l = c.args.cells.now in
     let i = c.args.base + c.args.m.at in
     let b : to_z w32 (of_z w32 (get_or l i (pos 0))) ≡ get_or l i (pos 0) = search rules in
     print-read l c.args.base c.args.end c.args.m.at from refl c.requires.inside.used
@@ -76,7 +76,7 @@ returns-then-m-eq0 c =
     let from : ℕ = c.args.base + c.args.m.at + 1 in
     let tab : Table = table_from c.args.cells.now c.args.base c.args.end in
     let reading : mark tab c.args.m.at is_print ≡ print_at c.args.cells.now from c.args.end c.args.m.at c.bounded-n.result =
-      let l = c.args.cells.now in
+    let l = c.args.cells.now in
     let i = c.args.base + c.args.m.at in
     let b : to_z w32 (of_z w32 (get_or l i (pos 0))) ≡ get_or l i (pos 0) = search rules in
     print-read l c.args.base c.args.end c.args.m.at from refl c.requires.inside.used
@@ -91,7 +91,7 @@ returns-then-output-w c =
     let from : ℕ = c.args.base + c.args.m.at + 1 in
     let tab : Table = table_from c.args.cells.now c.args.base c.args.end in
     let reading : mark tab c.args.m.at is_print ≡ print_at c.args.cells.now from c.args.end c.args.m.at c.bounded-n.result =
-      let l = c.args.cells.now in
+    let l = c.args.cells.now in
     let i = c.args.base + c.args.m.at in
     let b : to_z w32 (of_z w32 (get_or l i (pos 0))) ≡ get_or l i (pos 0) = search rules in
     print-read l c.args.base c.args.end c.args.m.at from refl c.requires.inside.used
@@ -124,7 +124,7 @@ returns c =
     let from : ℕ = c.args.base + c.args.m.at + 1 in
     let tab : Table = table_from c.args.cells.now c.args.base c.args.end in
     let reading : mark tab c.args.m.at is_print ≡ print_at c.args.cells.now from c.args.end c.args.m.at c.bounded-n.result =
-      let l = c.args.cells.now in
+    let l = c.args.cells.now in
     let i = c.args.base + c.args.m.at in
     let b : to_z w32 (of_z w32 (get_or l i (pos 0))) ≡ get_or l i (pos 0) = search rules in
     print-read l c.args.base c.args.end c.args.m.at from refl c.requires.inside.used

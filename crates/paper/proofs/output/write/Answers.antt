@@ -53,7 +53,7 @@ returns-then-output-w-lt-WRITE_WIDTH c = λ h.
 pub returns : goal.returns
 unfolding perform
 returns c = λ h.
-            let a = c.args in
+    let a = c.args in
     let w = a.m.written in
     let o = a.output.now in
     let H = writing a.m a.list.now o h in

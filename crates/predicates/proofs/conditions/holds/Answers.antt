@@ -13,25 +13,25 @@ use Rattle.predicates.proofs.conditions.holds.Goals as goal
 
 pub overflow_sub-result : goal.overflow_sub-result
 overflow_sub-result c =
-        let g : needed c.args.c ≤ c.args.h = c.requires.values in
+    let g : needed c.args.c ≤ c.args.h = c.requires.values in
     let k = rw c.in-Negative.is at g in
     omega arith
 
 pub overflow_sub-result-in-Null : goal.overflow_sub-result-in-Null
 overflow_sub-result-in-Null c =
-        let g : needed c.args.c ≤ c.args.h = c.requires.values in
+    let g : needed c.args.c ≤ c.args.h = c.requires.values in
     let k = rw c.in-Null.is at g in
     omega arith
 
 pub overflow_sub-result-in-Equal : goal.overflow_sub-result-in-Equal
 overflow_sub-result-in-Equal c =
-        let g : needed c.args.c ≤ c.args.h = c.requires.values in
+    let g : needed c.args.c ≤ c.args.h = c.requires.values in
     let k = rw c.in-Equal.is at g in
     omega arith
 
 pub overflow_sub-result-in-Equal-2 : goal.overflow_sub-result-in-Equal-2
 overflow_sub-result-in-Equal-2 c =
-        let g : needed c.args.c ≤ c.args.h = c.requires.values in
+    let g : needed c.args.c ≤ c.args.h = c.requires.values in
     let k = rw c.in-Equal.is at g in
     omega arith
 

@@ -3,7 +3,6 @@ use mathlib.Core.Path.{◌≡◌, sym, ◌∙◌}
 use mathlib.Core.Bool.{Bool, true, false}
 use Prim.Native.Nat.{◌+◌}
 use borrow.Author.Tests.{lt-ltb, le-ltb, eq-eqb, ne_eqb}
-use borrow.Author.Rules.{rules}
 use Rattle.language.specs.Machine.{pick, is_condition}
 use Rattle.operands.specs.Held.{Held, outcome, stacked, stepped}
 use Rattle.operands.specs.Turns.{mark_at}
@@ -25,7 +24,7 @@ pub returns-then-holds : goal.returns-then-holds
 unfolding pick
 returns-then-holds c =
     let tested : (h : Held) (t : Bool) (is : c.holds.result ≡ t) → outcome (stacked (stepped c.args.m (pick t (c.args.m.at + 2) c.exit_of-f.result) c.args.m.height) c.args.list.now h) ≡ mark_at c.args.cells.now c.args.base c.args.end (is_condition (condition_of c.args.c)) (stacked c.args.m c.args.list.now h) =
-      λ h t is. rw (
+    λ h t is. rw (
       condition-read,
       ← c.exit_of-f.ensures,
       ne_eqb _ _ c.if-f-eq0.false,
@@ -41,7 +40,7 @@ pub returns-else-holds : goal.returns-else-holds
 unfolding pick
 returns-else-holds c =
     let tested : (h : Held) (t : Bool) (is : c.holds.result ≡ t) → outcome (stacked (stepped c.args.m (pick t (c.args.m.at + 2) c.exit_of-f.result) c.args.m.height) c.args.list.now h) ≡ mark_at c.args.cells.now c.args.base c.args.end (is_condition (condition_of c.args.c)) (stacked c.args.m c.args.list.now h) =
-      λ h t is. rw (
+    λ h t is. rw (
       condition-read,
       ← c.exit_of-f.ensures,
       ne_eqb _ _ c.if-f-eq0.false,

@@ -29,15 +29,15 @@ returns-then-n-eq0 c =
     let tab : Table = table_from c.args.cells.now c.args.base c.args.end in
     let read : (n i : ℕ) → i + 1 ≡ c.args.base + n → 0 < n → n ≤ max_cells → cell tab n ≡ get_or c.args.cells.now i (pos 0) = λ n i e h k. cell_at c.args.cells.now c.args.base c.args.end n i h k e in
     let exits : target_of (cell tab (suc (suc (suc Q)))) tab.used ≡ c.target-f.result =
-      let i = c.args.base + Q + 2 in
+    let i = c.args.base + Q + 2 in
     let b : to_z w32 (of_z w32 (get_or c.args.cells.now i (pos 0))) ≡ get_or c.args.cells.now i (pos 0) = search rules in
     ap (λ (z : ℤ). target_of z tab.used) (read (suc (suc (suc Q))) i (omega arith) (omega arith) (omega arith) ∙ sym b) ∙ sym c.target-f.ensures in
     let limits : limit_of (cell tab (suc Q)) ≡ c.negated-n.result =
-      let i = c.args.base + Q in
+    let i = c.args.base + Q in
     let b : to_z w32 (of_z w32 (get_or c.args.cells.now i (pos 0))) ≡ get_or c.args.cells.now i (pos 0) = search rules in
     ap limit_of (read (suc Q) i (omega arith) (omega arith) (omega arith) ∙ sym b) ∙ sym c.negated-n.ensures in
     let orders : order_of (cell tab (suc (suc Q))) ≡ c.bounded-k.result =
-      let i = c.args.base + Q + 1 in
+    let i = c.args.base + Q + 1 in
     let b : to_z w32 (of_z w32 (get_or c.args.cells.now i (pos 0))) ≡ get_or c.args.cells.now i (pos 0) = search rules in
     ap (λ (z : ℤ). order_of z) (read (suc (suc Q)) i (omega arith) (omega arith) (omega arith) ∙ sym b) ∙ sym c.bounded-k.ensures in
     let reading : mark tab Q is_counter
@@ -50,15 +50,15 @@ returns-then-k-eq-COUNTERS c =
     let tab : Table = table_from c.args.cells.now c.args.base c.args.end in
     let read : (n i : ℕ) → i + 1 ≡ c.args.base + n → 0 < n → n ≤ max_cells → cell tab n ≡ get_or c.args.cells.now i (pos 0) = λ n i e h k. cell_at c.args.cells.now c.args.base c.args.end n i h k e in
     let exits : target_of (cell tab (suc (suc (suc Q)))) tab.used ≡ c.target-f.result =
-      let i = c.args.base + Q + 2 in
+    let i = c.args.base + Q + 2 in
     let b : to_z w32 (of_z w32 (get_or c.args.cells.now i (pos 0))) ≡ get_or c.args.cells.now i (pos 0) = search rules in
     ap (λ (z : ℤ). target_of z tab.used) (read (suc (suc (suc Q))) i (omega arith) (omega arith) (omega arith) ∙ sym b) ∙ sym c.target-f.ensures in
     let limits : limit_of (cell tab (suc Q)) ≡ c.negated-n.result =
-      let i = c.args.base + Q in
+    let i = c.args.base + Q in
     let b : to_z w32 (of_z w32 (get_or c.args.cells.now i (pos 0))) ≡ get_or c.args.cells.now i (pos 0) = search rules in
     ap limit_of (read (suc Q) i (omega arith) (omega arith) (omega arith) ∙ sym b) ∙ sym c.negated-n.ensures in
     let orders : order_of (cell tab (suc (suc Q))) ≡ c.bounded-k.result =
-      let i = c.args.base + Q + 1 in
+    let i = c.args.base + Q + 1 in
     let b : to_z w32 (of_z w32 (get_or c.args.cells.now i (pos 0))) ≡ get_or c.args.cells.now i (pos 0) = search rules in
     ap (λ (z : ℤ). order_of z) (read (suc (suc Q)) i (omega arith) (omega arith) (omega arith) ∙ sym b) ∙ sym c.bounded-k.ensures in
     let reading : mark tab Q is_counter
@@ -72,15 +72,15 @@ returns-then-f-eq0 c =
     let tab : Table = table_from c.args.cells.now c.args.base c.args.end in
     let read : (n i : ℕ) → i + 1 ≡ c.args.base + n → 0 < n → n ≤ max_cells → cell tab n ≡ get_or c.args.cells.now i (pos 0) = λ n i e h k. cell_at c.args.cells.now c.args.base c.args.end n i h k e in
     let exits : target_of (cell tab (suc (suc (suc Q)))) tab.used ≡ c.target-f.result =
-      let i = c.args.base + Q + 2 in
+    let i = c.args.base + Q + 2 in
     let b : to_z w32 (of_z w32 (get_or c.args.cells.now i (pos 0))) ≡ get_or c.args.cells.now i (pos 0) = search rules in
     ap (λ (z : ℤ). target_of z tab.used) (read (suc (suc (suc Q))) i (omega arith) (omega arith) (omega arith) ∙ sym b) ∙ sym c.target-f.ensures in
     let limits : limit_of (cell tab (suc Q)) ≡ c.negated-n.result =
-      let i = c.args.base + Q in
+    let i = c.args.base + Q in
     let b : to_z w32 (of_z w32 (get_or c.args.cells.now i (pos 0))) ≡ get_or c.args.cells.now i (pos 0) = search rules in
     ap limit_of (read (suc Q) i (omega arith) (omega arith) (omega arith) ∙ sym b) ∙ sym c.negated-n.ensures in
     let orders : order_of (cell tab (suc (suc Q))) ≡ c.bounded-k.result =
-      let i = c.args.base + Q + 1 in
+    let i = c.args.base + Q + 1 in
     let b : to_z w32 (of_z w32 (get_or c.args.cells.now i (pos 0))) ≡ get_or c.args.cells.now i (pos 0) = search rules in
     ap (λ (z : ℤ). order_of z) (read (suc (suc Q)) i (omega arith) (omega arith) (omega arith) ∙ sym b) ∙ sym c.bounded-k.ensures in
     let reading : mark tab Q is_counter
@@ -94,15 +94,15 @@ returns-then-m-eq0 c =
     let tab : Table = table_from c.args.cells.now c.args.base c.args.end in
     let read : (n i : ℕ) → i + 1 ≡ c.args.base + n → 0 < n → n ≤ max_cells → cell tab n ≡ get_or c.args.cells.now i (pos 0) = λ n i e h k. cell_at c.args.cells.now c.args.base c.args.end n i h k e in
     let exits : target_of (cell tab (suc (suc (suc Q)))) tab.used ≡ c.target-f.result =
-      let i = c.args.base + Q + 2 in
+    let i = c.args.base + Q + 2 in
     let b : to_z w32 (of_z w32 (get_or c.args.cells.now i (pos 0))) ≡ get_or c.args.cells.now i (pos 0) = search rules in
     ap (λ (z : ℤ). target_of z tab.used) (read (suc (suc (suc Q))) i (omega arith) (omega arith) (omega arith) ∙ sym b) ∙ sym c.target-f.ensures in
     let limits : limit_of (cell tab (suc Q)) ≡ c.negated-n.result =
-      let i = c.args.base + Q in
+    let i = c.args.base + Q in
     let b : to_z w32 (of_z w32 (get_or c.args.cells.now i (pos 0))) ≡ get_or c.args.cells.now i (pos 0) = search rules in
     ap limit_of (read (suc Q) i (omega arith) (omega arith) (omega arith) ∙ sym b) ∙ sym c.negated-n.ensures in
     let orders : order_of (cell tab (suc (suc Q))) ≡ c.bounded-k.result =
-      let i = c.args.base + Q + 1 in
+    let i = c.args.base + Q + 1 in
     let b : to_z w32 (of_z w32 (get_or c.args.cells.now i (pos 0))) ≡ get_or c.args.cells.now i (pos 0) = search rules in
     ap (λ (z : ℤ). order_of z) (read (suc (suc Q)) i (omega arith) (omega arith) (omega arith) ∙ sym b) ∙ sym c.bounded-k.ensures in
     let reading : mark tab Q is_counter
@@ -148,15 +148,15 @@ returns-then-c-n c =
     let tab : Table = table_from c.args.cells.now c.args.base c.args.end in
     let read : (n i : ℕ) → i + 1 ≡ c.args.base + n → 0 < n → n ≤ max_cells → cell tab n ≡ get_or c.args.cells.now i (pos 0) = λ n i e h k. cell_at c.args.cells.now c.args.base c.args.end n i h k e in
     let exits : target_of (cell tab (suc (suc (suc Q)))) tab.used ≡ c.target-f.result =
-      let i = c.args.base + Q + 2 in
+    let i = c.args.base + Q + 2 in
     let b : to_z w32 (of_z w32 (get_or c.args.cells.now i (pos 0))) ≡ get_or c.args.cells.now i (pos 0) = search rules in
     ap (λ (z : ℤ). target_of z tab.used) (read (suc (suc (suc Q))) i (omega arith) (omega arith) (omega arith) ∙ sym b) ∙ sym c.target-f.ensures in
     let limits : limit_of (cell tab (suc Q)) ≡ c.negated-n.result =
-      let i = c.args.base + Q in
+    let i = c.args.base + Q in
     let b : to_z w32 (of_z w32 (get_or c.args.cells.now i (pos 0))) ≡ get_or c.args.cells.now i (pos 0) = search rules in
     ap limit_of (read (suc Q) i (omega arith) (omega arith) (omega arith) ∙ sym b) ∙ sym c.negated-n.ensures in
     let orders : order_of (cell tab (suc (suc Q))) ≡ c.bounded-k.result =
-      let i = c.args.base + Q + 1 in
+    let i = c.args.base + Q + 1 in
     let b : to_z w32 (of_z w32 (get_or c.args.cells.now i (pos 0))) ≡ get_or c.args.cells.now i (pos 0) = search rules in
     ap (λ (z : ℤ). order_of z) (read (suc (suc Q)) i (omega arith) (omega arith) (omega arith) ∙ sym b) ∙ sym c.bounded-k.ensures in
     let reading : mark tab Q is_counter
@@ -178,7 +178,7 @@ returns-then-f-gt-CELLS c =
     let Q : ℕ = c.args.m.at in
     let read : (n i : ℕ) → i + 1 ≡ c.args.base + n → 0 < n → n ≤ max_cells → cell tab n ≡ get_or c.args.cells.now i (pos 0) = λ n i e h k. cell_at c.args.cells.now c.args.base c.args.end n i h k e in
     let exits : target_of (cell tab (suc (suc (suc Q)))) tab.used ≡ c.target-f.result =
-      let i = c.args.base + Q + 2 in
+    let i = c.args.base + Q + 2 in
     let b : to_z w32 (of_z w32 (get_or c.args.cells.now i (pos 0))) ≡ get_or c.args.cells.now i (pos 0) = search rules in
     ap (λ (z : ℤ). target_of z tab.used) (read (suc (suc (suc Q))) i (omega arith) (omega arith) (omega arith) ∙ sym b) ∙ sym c.target-f.ensures in
     let near : c.target-f.result ≤ max_cells = omega (arith, exits, target-le (cell tab (suc (suc (suc Q)))) tab.used) in
@@ -201,15 +201,15 @@ returns c =
     let tab : Table = table_from c.args.cells.now c.args.base c.args.end in
     let read : (n i : ℕ) → i + 1 ≡ c.args.base + n → 0 < n → n ≤ max_cells → cell tab n ≡ get_or c.args.cells.now i (pos 0) = λ n i e h k. cell_at c.args.cells.now c.args.base c.args.end n i h k e in
     let exits : target_of (cell tab (suc (suc (suc Q)))) tab.used ≡ c.target-f.result =
-      let i = c.args.base + Q + 2 in
+    let i = c.args.base + Q + 2 in
     let b : to_z w32 (of_z w32 (get_or c.args.cells.now i (pos 0))) ≡ get_or c.args.cells.now i (pos 0) = search rules in
     ap (λ (z : ℤ). target_of z tab.used) (read (suc (suc (suc Q))) i (omega arith) (omega arith) (omega arith) ∙ sym b) ∙ sym c.target-f.ensures in
     let limits : limit_of (cell tab (suc Q)) ≡ c.negated-n.result =
-      let i = c.args.base + Q in
+    let i = c.args.base + Q in
     let b : to_z w32 (of_z w32 (get_or c.args.cells.now i (pos 0))) ≡ get_or c.args.cells.now i (pos 0) = search rules in
     ap limit_of (read (suc Q) i (omega arith) (omega arith) (omega arith) ∙ sym b) ∙ sym c.negated-n.ensures in
     let orders : order_of (cell tab (suc (suc Q))) ≡ c.bounded-k.result =
-      let i = c.args.base + Q + 1 in
+    let i = c.args.base + Q + 1 in
     let b : to_z w32 (of_z w32 (get_or c.args.cells.now i (pos 0))) ≡ get_or c.args.cells.now i (pos 0) = search rules in
     ap (λ (z : ℤ). order_of z) (read (suc (suc Q)) i (omega arith) (omega arith) (omega arith) ∙ sym b) ∙ sym c.bounded-k.ensures in
     let reading : mark tab Q is_counter
