@@ -1,6 +1,7 @@
 // The desk program: lines from standard input, and what each prints to standard output. It is a loop over the console's steps, with read and write around
 // it: what is written is what `serve` printed, and what is read goes to `serve` byte by byte.
 #![tactic(auto)]
+
 ghost use Rattle.std.specs.Prelude.{◌≤◌, length};
 ghost use Rattle.book.specs.Store.{store_of};
 ghost use Rattle.console.specs.Places.{progress, advances};

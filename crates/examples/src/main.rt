@@ -1,5 +1,6 @@
 // Document 01's examples that are not starred, each tried and printed beside what it should give. The last line counts the differences.
 #![tactic(auto)]
+
 use engine::Store;
 use language::{CASHIER, FIRST_LETTER, HEIGHT, MOST_VALUE, OPEN};
 use operands::cells::bounded;

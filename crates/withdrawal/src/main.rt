@@ -1,5 +1,6 @@
 // A withdrawn letter pays no more through a letter that calls it. Letter p pays 5 and q calls p; p is withdrawn between two runs of q.
 #![tactic(auto)]
+
 ghost use Rattle.std.specs.Prelude.{◌≡◌, pos};
 
 use engine::Store;
