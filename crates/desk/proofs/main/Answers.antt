@@ -2,7 +2,6 @@
 use mathlib.Core.Path.{refl}
 use Prim.Native.Nat.{ℕ}
 use lib.ListN.{length-replicate}
-use borrow.Author.Rules.{rules}
 use Rattle.book.specs.Store.{fresh_store}
 use Rattle.desk.specs.Input.{held_bytes}
 use Rattle.desk.proofs.main.Goals as goal

@@ -1,35 +1,25 @@
 -- `desk::relay` meets its contract. The loop's invariant: the bytes taken went through the desk.
-use mathlib.Core.Path.{◌≡◌, refl, sym, ◌∙◌}
+use mathlib.Core.Path.{refl, sym, ◌∙◌}
 use mathlib.Core.Bool.{true≢false}
 use mathlib.Core.List.{[]}
-use Prim.Native.Nat.{◌+◌, ◌-◌, ◌≤◌}
 use native.Mathlib.Omega.{arith}
-use lib.ListN.{length}
-use borrow.Author.Rules.{rules}
-use borrow.Author.Tests.{not-true}
-use Rattle.book.specs.Store.{store_of}
-use Rattle.console.specs.Places.{progress}
-use Rattle.desk.proofs.Input.{Relaying, rest-size, relaying-more, relays-some, relays-all}
+use Rattle.desk.proofs.Input.{rest-size, relaying-more, relays-some, relays-all}
 use Rattle.desk.proofs.relay.Goals as goal
 
 pub loop-at-init : goal.loop-at-init
 loop-at-init c = record { inside = omega arith; buffers = c.requires; bytes = []; day = λ rest. refl }
 
-pub serve-a-requires : goal.serve-a-requires
-serve-a-requires c = c.loop-at.invariant.buffers
-
 pub write_answers-written-requires : goal.write_answers-written-requires
-write_answers-written-requires c = omega (arith, c.serve-a.ensures.few, c.before.before.before.before, c.loop-at.invariant.buffers.out)
+write_answers-written-requires c = omega (arith, c.serve-a.ensures.few, c.serve-a.auto.out, c.loop-at.invariant.buffers.out)
 
 pub returns-then-not-written : goal.returns-then-not-written
 returns-then-not-written c = relays-some _ _ _ _ _ _ c.loop-at.invariant _ c.serve-a.ensures _ (λ e. absurd (true≢false (sym e ∙ c.if-not-written.true)))
 
 pub loop-at-smaller : goal.loop-at-smaller
-loop-at-smaller c =
-        omega (arith, c.serve-a.ensures.some, rest-size c.args.part.now c.loop-at.at, c.loop-at-test.true)
+loop-at-smaller c = omega (arith, c.serve-a.ensures.some, rest-size c.args.part.now c.loop-at.at, c.loop-at-test.true)
 
 pub loop-at-preserved : goal.loop-at-preserved
-loop-at-preserved c = relaying-more _ _ _ _ _ _ c.loop-at.invariant _ c.serve-a.ensures _ _ (record { line = omega (arith, c.before.before.before.before.before.before.before.before, c.loop-at.invariant.buffers.line); out = omega (arith, c.before.before.before.before.before.before, c.loop-at.invariant.buffers.out) })
+loop-at-preserved c = relaying-more _ _ _ _ _ _ c.loop-at.invariant _ c.serve-a.ensures _ _ (record { line = omega (arith, c.serve-a.auto.line, c.loop-at.invariant.buffers.line); out = omega (arith, c.serve-a.auto.out, c.loop-at.invariant.buffers.out) })
 
 pub returns : goal.returns
 returns c = relays-all _ _ _ _ _ _ c.loop-at.invariant _ c.loop-at-test.false

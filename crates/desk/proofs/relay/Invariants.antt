@@ -1,15 +1,9 @@
 -- `desk::relay` meets its contract. The loop's invariant: the bytes taken went through the desk.
-use mathlib.Core.Path.{◌≡◌, refl, sym, ◌∙◌}
-use mathlib.Core.Bool.{true≢false}
-use mathlib.Core.List.{[]}
-use Prim.Native.Nat.{◌+◌, ◌-◌, ◌≤◌}
-use native.Mathlib.Omega.{arith}
+use Prim.Native.Nat.{◌-◌}
 use lib.ListN.{length}
-use borrow.Author.Rules.{rules}
-use borrow.Author.Tests.{not-true}
 use Rattle.book.specs.Store.{store_of}
 use Rattle.console.specs.Places.{progress}
-use Rattle.desk.proofs.Input.{Relaying, rest-size, relaying-more, relays-some, relays-all}
+use Rattle.desk.proofs.Input.{Relaying}
 use Rattle.desk.proofs.relay.Given as goal
 
 abbrev pub invariant-loop-at : goal.invariant-loop-at

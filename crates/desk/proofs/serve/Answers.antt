@@ -1,15 +1,13 @@
 -- `desk::serve` meets its contract. The loop's invariant: what is held is what the bytes taken print.
-use mathlib.Core.Path.{refl, sym}
-use Prim.Native.Nat.{◌+◌, ◌-◌, ◌≤◌}
+use mathlib.Core.Path.{refl}
+use Prim.Native.Nat.{◌+◌, ◌≤◌}
 use native.Mathlib.Omega.{arith}
 use lib.ListN.{length}
 use borrow.Author.Rules.{rules}
-use Rattle.book.specs.Store.{store_of}
 use Rattle.commands.specs.Served.{paper_bytes}
-use Rattle.console.specs.Places.{progress}
 use Rattle.console.proofs.Steps.{Takes}
 use Rattle.desk.specs.Input.{held_bytes}
-use Rattle.desk.proofs.Input.{Serving, rest_of, rest-size, step_went, serving-more}
+use Rattle.desk.proofs.Input.{rest_of, rest-size, step_went, serving-more}
 use Rattle.desk.proofs.serve.Goals as goal
 
 pub loop-at-init : goal.loop-at-init
@@ -41,8 +39,8 @@ loop-at-smaller c =
 pub loop-at-preserved : goal.loop-at-preserved
 loop-at-preserved c =
     let room : c.loop-at.held + paper_bytes ≤ held_bytes = c.is_due.ensures.room c.if-is_due.false c.loop-at.invariant.few in
-    serving-more _ _ _ _ _ _ _ c.loop-at.invariant c.loop-at-test.true room _ c.step-a.ensures _ _ (omega (arith, c.before.before.before.before.before.before, c.loop-at.invariant.buffers.line))
-    (omega (arith, c.before.before.before.before, c.loop-at.invariant.buffers.out))
+    serving-more _ _ _ _ _ _ _ c.loop-at.invariant c.loop-at-test.true room _ c.step-a.ensures _ _ (omega (arith, c.step-a.auto.line, c.loop-at.invariant.buffers.line))
+    (omega (arith, c.step-a.auto.paper, c.loop-at.invariant.buffers.out))
 
 pub returns : goal.returns
 returns c = let l = c.loop-at in record { some = omega (arith, c.loop-at-test.false); inside = l.invariant.inside; few = l.invariant.few; day = l.invariant.day }
