@@ -1,6 +1,7 @@
 // The desk program: lines from standard input, and what each prints to standard output. It is a loop over the console's steps, with read and write around
 // it: what is written is what `serve` printed, and what is read goes to `serve` byte by byte.
 #![tactic(auto)]
+
 ghost use Rattle.std.specs.Prelude.{◌≤◌, length};
 ghost use Rattle.book.specs.Store.{store_of};
 ghost use Rattle.console.specs.Places.{progress, advances};
@@ -9,30 +10,30 @@ ghost use Rattle.desk.specs.Input.{Lent, Fresh, Undue, Serves, Relays};
 use commands::PAPER;
 use console::{Advance, KEPT, LINES, Place, finish, line_end, step};
 use language::{LETTERS, OPEN, STORE_CELLS, VARIABLES};
-use libc::{STDERR_FILENO, STDIN_FILENO, STDOUT_FILENO};
 use lines::{Command, INPUTS, parse};
+use std::io::{IsTerminal, Print, Read};
 
 // The bytes of output that are held before they are written.
 const HELD: usize = 65536;
+
+// The most bytes that one read gives.
+const PART: usize = 65536;
 
 // The steps that runs may take while an answer waits to be written: a few milliseconds.
 const PATIENCE: u32 = 1000000;
 
 // One line on standard error: what has failed, and the last line that was obeyed.
-fn complain(what: &[u8], done: u32) {
-    io::write_all(STDERR_FILENO, what);
-    io::write_all(STDERR_FILENO, b"; stopped after line ");
-    io::print_decimal(STDERR_FILENO, done as u64);
-    io::write_all(STDERR_FILENO, b"\n");
+fn complain(rt: HostRuntime, what: &str, done: u32) {
+    let _ = eprintln!(rt; "desk: {what}; stopped after line {done}");
 }
 
 // The answers are written, or it is said that they cannot be.
-fn write_answers(out: &[u8], count: usize, done: u32) -> bool
+fn write_answers(rt: HostRuntime, out: &[u8], count: usize, done: u32) -> bool
     requires { count ≤ length out.now }
 {
-    let written = io::write_all(STDOUT_FILENO, &out[..count]);
+    let written = rt.write_all(&out[..count]).is_ok();
     if !written {
-        complain(b"desk: the answers cannot be written", done);
+        complain(rt, "the answers cannot be written", done);
     }
     written
 }
@@ -147,6 +148,7 @@ struct Relayed {
 
 // All of a part: what it prints is written before more is read. Where that fails, no later line is obeyed.
 fn relay(
+    rt: HostRuntime,
     cells: &mut [i32; STORE_CELLS],
     used: &mut [usize; LETTERS],
     permissions: &mut [u32; LETTERS],
@@ -179,7 +181,7 @@ fn relay(
         );
         p = a.place;
         at += a.taken; // the next steps of this part
-        let written = write_answers(out, a.printed, p.done);
+        let written = write_answers(rt, out, a.printed, p.done);
         if !written {
             return Relayed {
                 place: p,
@@ -197,6 +199,7 @@ fn relay(
 
 // The whole input. Nothing says that it ends, so the reads are counted down.
 fn attend(
+    rt: HostRuntime,
     cells: &mut [i32; STORE_CELLS],
     used: &mut [usize; LETTERS],
     permissions: &mut [u32; LETTERS],
@@ -207,24 +210,27 @@ fn attend(
 )
     requires { Fresh (store_of cells.old used.old permissions.old vars.old) line.old out.old }
 {
-    let mut buffer = io::large_buffer();
+    let mut input = rt.stdin();
+    let mut buffer = [0u8; PART];
     let mut p = Place { done: 0, kept: 0 };
     let mut reads = u64::MAX;
     while reads > 0 && p.done < LINES {
         reads -= 1;
-        let got = libc::read(STDIN_FILENO, &mut buffer);
-        if got < 0 {
-            complain(b"desk: the input cannot be read", p.done);
-            return;
-        }
-        let n = io::count(got, &buffer);
+        let n = match input.read(&mut buffer) {
+            Ok(n) => n,
+            Err(_) => {
+                complain(rt, "the input cannot be read", p.done);
+                return;
+            }
+        };
         if n == 0 {
             // "the newline, which the last may lack"
             let e = finish(cells, used, permissions, vars, line, p, out);
-            write_answers(out, e.printed, e.place.done);
+            write_answers(rt, out, e.printed, e.place.done);
             return;
         }
         let t = relay(
+            rt,
             cells,
             used,
             permissions,
@@ -242,15 +248,16 @@ fn attend(
     }
 }
 
-fn main() {
+fn main(rt: HostRuntime) {
     let mut cells = [0i32; STORE_CELLS];
     let mut used = [0usize; LETTERS];
     let mut permissions = [OPEN; LETTERS];
     let mut vars = [0i32; VARIABLES];
     let mut line = [0u8; KEPT];
     let mut out = [0u8; HELD];
-    let person = libc::isatty(STDIN_FILENO) == 1;
+    let person = rt.stdin().is_terminal();
     attend(
+        rt,
         &mut cells,
         &mut used,
         &mut permissions,

@@ -1,8 +1,10 @@
 // Document 01's examples that are not starred, each tried and printed beside what it should give. The last line counts the differences.
 #![tactic(auto)]
+
 use engine::Store;
 use language::{CASHIER, FIRST_LETTER, HEIGHT, MOST_VALUE, OPEN};
 use operands::cells::bounded;
+use std::io;
 
 // What a run gave: its number, its steps and the top of its list, 0 if none.
 #[derive(Clone, Copy)]
@@ -75,12 +77,12 @@ fn too_many() -> Linked {
 }
 
 // A value in decimal; a negative one, which no example gives, in words.
-fn print_value(x: i32) {
+fn print_value(rt: HostRuntime, x: i32) -> io::Result<()> {
     if x < 0 {
-        io::write_all(1, b"below 0");
-    } else {
-        io::print_decimal(1, bounded(x, MOST_VALUE as usize, 1000000000) as u64);
+        return print!(rt; "below 0");
     }
+    let value = bounded(x, MOST_VALUE as usize, 1000000000);
+    print!(rt; "{value}")
 }
 
 // One difference more, unless the figures are the same.
@@ -94,85 +96,88 @@ fn counted(differences: u32, same: bool) -> u32 {
     differences
 }
 
-fn number_line(differences: u32, what: &[u8], number: u32, should: u32) -> u32 {
-    io::write_all(1, what);
-    io::write_all(1, b": number ");
-    io::print_decimal(1, number as u64);
-    io::write_all(1, b" (should be ");
-    io::print_decimal(1, should as u64);
-    io::write_all(1, b")\n");
-    counted(differences, number == should)
+fn number_line(
+    rt: HostRuntime,
+    differences: u32,
+    what: &str,
+    number: u32,
+    should: u32,
+) -> io::Result<u32> {
+    println!(rt; "{what}: number {number} (should be {should})")?;
+    Ok(counted(differences, number == should))
 }
 
-fn top_line(differences: u32, what: &[u8], given: Given, number: u32, top: i32) -> u32 {
-    io::write_all(1, what);
-    io::write_all(1, b": number ");
-    io::print_decimal(1, given.number as u64);
-    io::write_all(1, b", top ");
-    print_value(given.top);
-    io::write_all(1, b" (should be ");
-    io::print_decimal(1, number as u64);
-    io::write_all(1, b", ");
-    print_value(top);
-    io::write_all(1, b")\n");
-    let same = given.number == number;
-    counted(differences, same && given.top == top)
+fn top_line(
+    rt: HostRuntime,
+    differences: u32,
+    what: &str,
+    given: Given,
+    number: u32,
+    top: i32,
+) -> io::Result<u32> {
+    let found = given.number;
+    print!(rt; "{what}: number {found}, top ")?;
+    print_value(rt, given.top)?;
+    print!(rt; " (should be {number}, ")?;
+    print_value(rt, top)?;
+    println!(rt; ")")?;
+    let same = found == number;
+    Ok(counted(differences, same && given.top == top))
 }
 
-fn steps_line(differences: u32, what: &[u8], given: Given, number: u32, steps: u32) -> u32 {
-    io::write_all(1, what);
-    io::write_all(1, b": number ");
-    io::print_decimal(1, given.number as u64);
-    io::write_all(1, b", steps ");
-    io::print_decimal(1, given.steps as u64);
-    io::write_all(1, b" (should be ");
-    io::print_decimal(1, number as u64);
-    io::write_all(1, b", ");
-    io::print_decimal(1, steps as u64);
-    io::write_all(1, b")\n");
-    let same = given.number == number;
-    counted(differences, same && given.steps == steps)
+fn steps_line(
+    rt: HostRuntime,
+    differences: u32,
+    what: &str,
+    given: Given,
+    number: u32,
+    steps: u32,
+) -> io::Result<u32> {
+    let found = given.number;
+    let taken = given.steps;
+    println!(rt; "{what}: number {found}, steps {taken} (should be {number}, {steps})")?;
+    let same = found == number;
+    Ok(counted(differences, same && taken == steps))
 }
 
-fn cells_line(differences: u32, what: &[u8], linked: Linked, number: u32, cells: usize) -> u32 {
-    io::write_all(1, what);
-    io::write_all(1, b": number ");
-    io::print_decimal(1, linked.number as u64);
-    io::write_all(1, b", cells ");
-    io::print_decimal(1, linked.cells as u64);
-    io::write_all(1, b" (should be ");
-    io::print_decimal(1, number as u64);
-    io::write_all(1, b", ");
-    io::print_decimal(1, cells as u64);
-    io::write_all(1, b")\n");
-    let same = linked.number == number;
-    counted(differences, same && linked.cells == cells)
+fn cells_line(
+    rt: HostRuntime,
+    differences: u32,
+    what: &str,
+    linked: Linked,
+    number: u32,
+    cells: usize,
+) -> io::Result<u32> {
+    let found = linked.number;
+    let used = linked.cells;
+    println!(rt; "{what}: number {found}, cells {used} (should be {number}, {cells})")?;
+    let same = found == number;
+    Ok(counted(differences, same && used == cells))
 }
 
-fn runs() -> u32 {
-    let a = top_line(0, b"m with input 29", power(29), 0, 536870912);
-    let b = number_line(a, b"m with input 30", power(30).number, 23);
-    let c = number_line(b, b"m with input 99", power(99).number, 23);
-    steps_line(c, b"m with input 100", power(100), 28, 401)
+fn runs(rt: HostRuntime) -> io::Result<u32> {
+    let a = top_line(rt, 0, "m with input 29", power(29), 0, 536870912)?;
+    let b = number_line(rt, a, "m with input 30", power(30).number, 23)?;
+    let c = number_line(rt, b, "m with input 99", power(99).number, 23)?;
+    steps_line(rt, c, "m with input 100", power(100), 28, 401)
 }
 
-fn texts(differences: u32) -> u32 {
-    let a = cells_line(differences, b"123 N in one pair", many(), 0, 249);
-    let b = number_line(a, b"124 N in one pair", too_many().number, 8);
-    let c = number_line(b, b"$0$ in a pair", link(b"($0$)").number, 5);
+fn texts(rt: HostRuntime, differences: u32) -> io::Result<u32> {
+    let a = cells_line(rt, differences, "123 N in one pair", many(), 0, 249)?;
+    let b = number_line(rt, a, "124 N in one pair", too_many().number, 8)?;
+    let c = number_line(rt, b, "$0$ in a pair", link(b"($0$)").number, 5)?;
     let none = [0u8; 0];
-    let d = number_line(c, b"the empty text", link(&none).number, 7);
+    let d = number_line(rt, c, "the empty text", link(&none).number, 7)?;
     number_line(
+        rt,
         d,
-        b"eleven nested pairs",
+        "eleven nested pairs",
         link(b"((((((((((()))))))))))").number,
         4,
     )
 }
 
-fn main() {
-    let differences = texts(runs());
-    io::write_all(1, b"differences: ");
-    io::print_decimal(1, differences as u64);
-    io::write_all(1, b"\n");
+fn main(rt: HostRuntime) -> io::Result<()> {
+    let differences = texts(rt, runs(rt)?)?;
+    println!(rt; "differences: {differences}")
 }

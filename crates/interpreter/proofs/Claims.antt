@@ -16,7 +16,7 @@ use Rattle.book.specs.Calls.{Run, runs}
 use Rattle.book.specs.Replies.{reported, tells}
 use Rattle.book.specs.Refusals.{is_refusal, refusal, answer}
 use Rattle.book.specs.Store.{Store, store_ran, store_accepts, store_view, store_call}
-use Rattle.book.specs.Events.{Event, asked}
+use Rattle.book.specs.Events.{Event}
 use Rattle.book.specs.Demand3.{Always}
 use Rattle.book.proofs.Refusals.{refusal-refuses, free-run}
 use Rattle.book.proofs.Demand3.{history, always, permissions-after}

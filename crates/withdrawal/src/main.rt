@@ -1,9 +1,11 @@
 // A withdrawn letter pays no more through a letter that calls it. Letter p pays 5 and q calls p; p is withdrawn between two runs of q.
 #![tactic(auto)]
+
 ghost use Rattle.std.specs.Prelude.{◌≡◌, pos};
 
 use engine::Store;
 use language::{CASHIER, HEIGHT, OPEN};
+use std::io;
 
 // The letter p.
 const LETTER_P: u32 = 112;
@@ -51,18 +53,15 @@ pub fn session() -> Shown
     }
 }
 
-fn line(text: &[u8], n: u32) {
-    io::write_all(1, text);
-    io::print_decimal(1, n as u64);
-    io::write_all(1, b"\n");
-}
-
-fn main() {
+fn main(rt: HostRuntime) -> io::Result<()> {
     let s = session();
-    line(b"run of q, p standing: ", s.before);
+    let before = s.before;
+    println!(rt; "run of q, p standing: {before}")?;
     if s.paid == 5 {
-        line(b"paid: ", 5);
+        println!(rt; "paid: 5")?;
     }
-    line(b"run of q, p withdrawn: ", s.after);
-    line(b"run of p, withdrawn: ", s.withdrawn);
+    let after = s.after;
+    println!(rt; "run of q, p withdrawn: {after}")?;
+    let withdrawn = s.withdrawn;
+    println!(rt; "run of p, withdrawn: {withdrawn}")
 }

@@ -1,6 +1,5 @@
 -- `interpreter::cycle::copy_out` meets its contract. The loop's invariant: the first i places are the slots.
 use mathlib.Core.Path.{◌≡◌, ◌∙◌}
-use Prim.Native.Nat.{◌-◌}
 use native.Mathlib.Omega.{arith}
 use lib.ListN.{get_or}
 use lib.IntN.{pos}
@@ -8,7 +7,7 @@ use mir.Syntax.{w32}
 use mir.Val.{to_z, of_z}
 use borrow.Author.Rules.{rules}
 use Rattle.language.specs.Limits.{max_height}
-use Rattle.language.proofs.Copies.{Pasting, pasting-none, pasting-more, pasting-done, paste-whole}
+use Rattle.language.proofs.Copies.{pasting-none, pasting-more, pasting-done, paste-whole}
 use Rattle.interpreter.proofs.cycle.copy_out.Goals as goal
 
 pub loop-i-init : goal.loop-i-init

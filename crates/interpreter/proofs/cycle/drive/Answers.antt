@@ -12,7 +12,7 @@ use Rattle.operands.proofs.Held.{length-frames}
 use Rattle.book.specs.Store.{store_of}
 use Rattle.interpreter.specs.Runs.{ran}
 use Rattle.interpreter.proofs.Loop.{after, run_at}
-use Rattle.interpreter.proofs.Runs.{Looping, Entering, Stretch, fit_of, allowed_of, left_over, left-resumed, resuming, resume, falls, stretch-none, stretch-more, lent, driven}
+use Rattle.interpreter.proofs.Runs.{Looping, fit_of, allowed_of, left-resumed, resuming, resume, falls, stretch-none, stretch-more, lent, driven}
 use Rattle.interpreter.proofs.cycle.drive.Goals as goal
 
 pub loop-m-init : goal.loop-m-init

@@ -1,7 +1,6 @@
 -- `interpreter::cycle::report` meets its contract.
 use borrow.Author.Tests.{lt-ltb, le-ltb, ne_eqb}
 use native.Mathlib.Omega.{arith}
-use borrow.Author.Rules.{rules}
 use Rattle.interpreter.proofs.cycle.report.Goals as goal
 
 pub returns-then-m-gt-FALSE : goal.returns-then-m-gt-FALSE
