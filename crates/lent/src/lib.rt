@@ -1,5 +1,6 @@
 // Define and withdraw over a store whose arrays the caller lends: no copy of the store is made.
 #![tactic(auto)]
+
 ghost use Rattle.std.specs.Prelude.{◌≡◌, ◌<◌, length};
 ghost use Rattle.std.proofs.Math.Seq.{paste};
 ghost use Rattle.language.specs.Limits.{max_cells, max_letters, store_cells};

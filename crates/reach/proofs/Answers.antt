@@ -19,7 +19,7 @@ use Rattle.book.specs.Refusals.{refusal_number, first, zero_or, refused_by, text
 use Rattle.book.specs.Store.{Store, store_of, sound_store, store_view}
 use Rattle.book.proofs.Refusals.{none-fits}
 use Rattle.marks.specs.Formats.{ticked}
-use Rattle.reach.specs.Reach.{called_by, calls, spread_by, most_calls, each_of, readable, reached_by, missing_of, Report, reports, report_of, reach}
+use Rattle.reach.specs.Reach.{called_by, calls, spread_by, most_calls, each_of, readable, reached_by, missing_of, reports, report_of, reach}
 use Rattle.reach.specs.Rounds.{tables, in_array, rows}
 use Rattle.reach.proofs.Calls.{array-calls, rounds-same, start-flags}
 

@@ -36,7 +36,7 @@ use Rattle.book.specs.Demand3.{Always}
 use Rattle.book.proofs.Refusals.{refusal-refuses, refusal-not-zero, free-letter, free-run}
 use Rattle.book.proofs.History.{Agree, agree-sound, agree_fresh, both-call, agree_after}
 use Rattle.book.proofs.Demand3.{history, always}
-use Rattle.reach.specs.Reach.{member, calls, Reaches, is_flagged, each_of, readable, reached_by, missing_of, Report, reports, reach}
+use Rattle.reach.specs.Reach.{member, Reaches, is_flagged, each_of, readable, reached_by, missing_of, Report, reports, reach}
 use Rattle.reach.specs.Claims.{ReachedExactly, MissingExactly, RefusalKeeps, Warns, EndsNoText, NeverDamaged}
 use Rattle.reach.proofs.Flags.{flagged-by, flagged-letter}
 use Rattle.reach.proofs.Rounds.{each_all}

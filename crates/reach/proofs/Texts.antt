@@ -24,7 +24,7 @@ use Rattle.book.specs.Store.{Store}
 use Rattle.marks.specs.Marks.{next_cell, met, marks_from, marks, undamaged, called, calls_in}
 use Rattle.marks.proofs.Marks.{marks-step}
 use Rattle.reach.proofs.Rounds.{or-true}
-use Rattle.reach.specs.Reach.{called_by, member, calls, readable}
+use Rattle.reach.specs.Reach.{called_by, member, readable}
 
 -- the letters that an expression calls, and then r
 abbrev pub calls_of : Expr → List ℕ → List ℕ

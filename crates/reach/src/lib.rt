@@ -1,5 +1,6 @@
 // What a letter can reach: which letters it may call, through however many others, and which of those have no text.
 #![tactic(auto)]
+
 ghost use Rattle.std.specs.Prelude.{◌≡◌, true, cond, eqb};
 ghost use Rattle.book.specs.Store.{store_of};
 ghost use Rattle.marks.specs.Formats.{Row};

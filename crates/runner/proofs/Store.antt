@@ -3,7 +3,6 @@ use mathlib.Core.Path.{◌≡◌, refl, ap, ◌∙◌}
 use Prim.Native.Nat.{ℕ, zero, suc, ◌≤◌}
 use native.Mathlib.Omega.{arith}
 use mathlib.Core.Bool.{Bool, true, false, cond, ◌&&◌}
-use mathlib.Core.Option.{none}
 use mathlib.Core.List.{List, [], ◌∷◌, ◌++◌}
 use lib.Dec.{leb, eqb}
 use lib.IntN.{ℤ}
@@ -18,7 +17,7 @@ use Rattle.language.proofs.Tests.{first-true, second-true}
 use Rattle.book.specs.declared.Report.{Report}
 use Rattle.book.specs.Calls.{Run, runs}
 use Rattle.book.specs.Replies.{leaves, plain, replied, reported, tells}
-use Rattle.book.specs.Refusals.{first, refused_by, role_tests, closing, tests, refusal}
+use Rattle.book.specs.Refusals.{refused_by, role_tests, closing, tests, refusal}
 use Rattle.book.specs.Store.{Store, store_of, sound_store, with_variables, store_ran, store_accepts, store_view, store_call, answered}
 use Rattle.book.proofs.Refusals.{none-fits, Free, free-run}
 use Rattle.book.proofs.Store.{call-refused, call-accepted}

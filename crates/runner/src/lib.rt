@@ -1,5 +1,6 @@
 // A run over a store's arrays, as document 01's "Run" asks: its refusals in their order, then the interpreter.
 #![tactic(auto)]
+
 ghost use Rattle.std.specs.Prelude.{◌≡◌};
 ghost use Rattle.book.specs.Calls.{running};
 ghost use Rattle.book.specs.Store.{store_of, store_call, answered};

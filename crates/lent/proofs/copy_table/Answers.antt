@@ -3,12 +3,10 @@ use borrow.Author.Rules.{rules}
 use mir.Syntax.{w32}
 use mir.Val.{to_z, of_z}
 use mathlib.Core.Path.{◌≡◌, refl}
-use Prim.Native.Nat.{◌-◌}
 use native.Mathlib.Omega.{arith}
 use lib.ListN.{get_or}
 use lib.IntN.{pos}
-use Rattle.language.specs.Limits.{max_cells}
-use Rattle.language.proofs.Copies.{Pasting, pasting-none, pasting-more, pasting-done}
+use Rattle.language.proofs.Copies.{pasting-none, pasting-more, pasting-done}
 use Rattle.lent.proofs.copy_table.Goals as goal
 
 pub loop-i-init : goal.loop-i-init
@@ -37,7 +35,7 @@ loop-i-smaller c = omega arith
 
 pub loop-i-preserved : goal.loop-i-preserved
 loop-i-preserved c =
-        let i = c.loop-i.i in
+    let i = c.loop-i.i in
     let e : get_or c.args.table.now i (pos 0) ≡ to_z w32 (of_z w32 (get_or c.args.table.now i (pos 0))) = search rules in
     pasting-more _ _ _ _ (pos 0) _ _ _ _ c.loop-i.invariant (omega arith) refl e
 

@@ -1,5 +1,4 @@
 -- `lent::define` meets its contract.
-use borrow.Author.Rules.{rules}
 use Rattle.language.proofs.Letters.{letter-lt}
 use Rattle.lent.proofs.LentCalls.{define-letter, define-early, define-refused, define-accepted}
 use Rattle.lent.proofs.define.Goals as goal
@@ -12,13 +11,13 @@ index-k-requires c = define-letter _ c.args.letter c.args.permission c.args.text
 
 pub returns-then-l-ne0 : goal.returns-then-l-ne0
 returns-then-l-ne0 c =
-            define-refused _ c.args.letter c.args.permission _ _ (c.define-number.ensures c.args.cells.now) c.if-number-ne0.false _ c.link-l.ensures c.if-l-ne0.true
+    define-refused _ c.args.letter c.args.permission _ _ (c.define-number.ensures c.args.cells.now) c.if-number-ne0.false _ c.link-l.ensures c.if-l-ne0.true
 
 pub put-requires : goal.put-requires
 put-requires c =
-                rw c.index-k.ensures (letter-lt _ (define-letter _ c.args.letter c.args.permission c.args.text.now _ (c.define-number.ensures c.args.cells.now) c.if-number-ne0.false))
+    rw c.index-k.ensures (letter-lt _ (define-letter _ c.args.letter c.args.permission c.args.text.now _ (c.define-number.ensures c.args.cells.now) c.if-number-ne0.false))
 
 pub returns : goal.returns
 returns c =
-                    define-accepted _ c.args.letter c.args.permission _ _ (c.define-number.ensures c.args.cells.now) c.if-number-ne0.false _ c.link-l.ensures _ c.if-l-ne0.false
+    define-accepted _ c.args.letter c.args.permission _ _ (c.define-number.ensures c.args.cells.now) c.if-number-ne0.false _ c.link-l.ensures _ c.if-l-ne0.false
     (rw c.index-k.ensures at (c.put.ensures c.args.vars.now))

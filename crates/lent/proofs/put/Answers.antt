@@ -1,6 +1,5 @@
 -- `lent::put` meets its contract.
 use Rattle.book.specs.Store.{with_entry}
-use borrow.Author.Rules.{rules}
 use Rattle.lent.proofs.put.Goals as goal
 
 pub returns : goal.returns

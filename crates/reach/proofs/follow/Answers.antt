@@ -1,10 +1,8 @@
 -- `reach::follow` meets its contract.
 use mathlib.Core.Path.{refl}
-use Prim.Native.Nat.{◌-◌}
 use native.Mathlib.Omega.{arith}
-use Rattle.reach.specs.Reach.{most_calls, spread_by}
-use Rattle.reach.specs.Rounds.{in_array}
-use Rattle.reach.proofs.Rounds.{Following, following-flags, following-more, following-still, following-done}
+use Rattle.reach.specs.Reach.{spread_by}
+use Rattle.reach.proofs.Rounds.{following-flags, following-more, following-still, following-done}
 use Rattle.reach.proofs.follow.Goals as goal
 
 pub loop-n-init : goal.loop-n-init

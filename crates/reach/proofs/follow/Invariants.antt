@@ -1,10 +1,8 @@
 -- `reach::follow` meets its contract.
-use mathlib.Core.Path.{refl}
 use Prim.Native.Nat.{◌-◌}
-use native.Mathlib.Omega.{arith}
-use Rattle.reach.specs.Reach.{most_calls, spread_by}
+use Rattle.reach.specs.Reach.{most_calls}
 use Rattle.reach.specs.Rounds.{in_array}
-use Rattle.reach.proofs.Rounds.{Following, following-flags, following-more, following-still, following-done}
+use Rattle.reach.proofs.Rounds.{Following}
 use Rattle.reach.proofs.follow.Given as goal
 
 abbrev pub invariant-loop-n : goal.invariant-loop-n

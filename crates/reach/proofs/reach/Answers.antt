@@ -1,9 +1,6 @@
 -- `reach::reach` meets its contract.
-use mathlib.Core.Path.{◌≡◌, refl, sym, ap, ◌∙◌}
+use mathlib.Core.Path.{refl, sym, ap, ◌∙◌}
 use mathlib.Core.List.{[], ◌∷◌}
-use Prim.Native.Nat.{ℕ}
-use borrow.Author.Tests.{not-true, not-false}
-use borrow.Author.Rules.{rules}
 use Rattle.language.proofs.Letters.{letter-lt}
 use Rattle.book.specs.Refusals.{not_standing, text_tests}
 use Rattle.book.specs.Store.{Store, store_of, store_view}
@@ -22,7 +19,7 @@ pub index-a-requires : goal.index-a-requires
 index-a-requires c =
     let st : Store = store_of c.args.cells.now c.args.used.now c.args.permissions.now c.args.vars.now in
     let admitted : Opened (store_view st) c.args.letter =
-      let v = store_view st in
+    let v = store_view st in
     let l = c.args.letter in
     opened v l (not_standing v l ∷ []) (none-fits (text_tests v l) _ (c.text-number.ensures c.args.cells.now) c.if-number-ne0.false) in
     admitted.letter
@@ -31,7 +28,7 @@ pub read_all-requires : goal.read_all-requires
 read_all-requires c =
     let st : Store = store_of c.args.cells.now c.args.used.now c.args.permissions.now c.args.vars.now in
     let admitted : Opened (store_view st) c.args.letter =
-      let v = store_view st in
+    let v = store_view st in
     let l = c.args.letter in
     opened v l (not_standing v l ∷ []) (none-fits (text_tests v l) _ (c.text-number.ensures c.args.cells.now) c.if-number-ne0.false) in
     record { counts = sound-counts st admitted.sound; array = refl }
@@ -46,7 +43,7 @@ pub bounds-start-a : goal.bounds-start-a
 bounds-start-a c =
     let st : Store = store_of c.args.cells.now c.args.used.now c.args.permissions.now c.args.vars.now in
     let admitted : Opened (store_view st) c.args.letter =
-      let v = store_view st in
+    let v = store_view st in
     let l = c.args.letter in
     opened v l (not_standing v l ∷ []) (none-fits (text_tests v l) _ (c.text-number.ensures c.args.cells.now) c.if-number-ne0.false) in
     rw c.index-a.ensures (letter-lt _ admitted.letter)
@@ -55,7 +52,7 @@ pub follow-flags-requires : goal.follow-flags-requires
 follow-flags-requires c =
     let st : Store = store_of c.args.cells.now c.args.used.now c.args.permissions.now c.args.vars.now in
     let admitted : Opened (store_view st) c.args.letter =
-      let v = store_view st in
+    let v = store_view st in
     let l = c.args.letter in
     opened v l (not_standing v l ∷ []) (none-fits (text_tests v l) _ (c.text-number.ensures c.args.cells.now) c.if-number-ne0.false) in
     start-proper c.index-a.result (rw c.index-a.ensures (letter-lt _ admitted.letter))
@@ -64,7 +61,7 @@ pub returns : goal.returns
 returns c =
     let st : Store = store_of c.args.cells.now c.args.used.now c.args.permissions.now c.args.vars.now in
     let admitted : Opened (store_view st) c.args.letter =
-      let v = store_view st in
+    let v = store_view st in
     let l = c.args.letter in
     opened v l (not_standing v l ∷ []) (none-fits (text_tests v l) _ (c.text-number.ensures c.args.cells.now) c.if-number-ne0.false) in
     let m = followed c.args.cells.now c.args.used.now c.args.permissions.now c.args.vars.now _ _ c.index-a.result

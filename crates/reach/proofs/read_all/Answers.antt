@@ -1,11 +1,8 @@
 -- `reach::read_all` meets its contract.
 use mathlib.Core.Path.{refl, sym, ◌∙◌}
-use Prim.Native.Nat.{◌-◌}
 use native.Mathlib.Omega.{arith}
-use borrow.Author.Tests.{not-true, not-false}
-use Rattle.language.specs.Limits.{max_letters}
-use Rattle.reach.specs.Rounds.{tables, rows}
-use Rattle.reach.proofs.Rounds.{sound-at, Gathering, gathering-more, gathering-damaged, gathering-done}
+use Rattle.reach.specs.Rounds.{rows}
+use Rattle.reach.proofs.Rounds.{sound-at, gathering-more, gathering-damaged, gathering-done}
 use Rattle.reach.proofs.read_all.Goals as goal
 
 pub loop-letter-init : goal.loop-letter-init

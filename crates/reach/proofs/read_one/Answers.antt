@@ -2,7 +2,6 @@
 use mathlib.Core.Path.{◌∙◌}
 use native.Mathlib.Omega.{arith}
 use borrow.Author.Tests.{eq-eqb, ne_eqb}
-use borrow.Author.Rules.{rules}
 use Rattle.reach.specs.Reach.{called_by, readable}
 use Rattle.reach.proofs.Rounds.{count-bounds}
 use Rattle.reach.proofs.read_one.Goals as goal

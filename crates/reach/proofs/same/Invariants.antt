@@ -1,13 +1,8 @@
 -- `reach::same` meets its contract.
 use mathlib.Core.Path.{◌≡◌}
-use mathlib.Core.Bool.{false≢true}
 use Prim.Native.Nat.{ℕ, ◌-◌, ◌<◌}
-use native.Mathlib.Omega.{arith}
 use lib.ListN.{get_or}
-use lib.Seq.{ext_get_or}
-use borrow.Author.Rules.{rules}
 use Rattle.language.specs.Limits.{max_letters}
-use Rattle.reach.proofs.Flags.{same_more}
 use Rattle.reach.proofs.same.Given as goal
 
 abbrev pub invariant-loop-b : goal.invariant-loop-b

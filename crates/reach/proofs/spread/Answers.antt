@@ -1,8 +1,6 @@
 -- `reach::spread` meets its contract.
-use Prim.Native.Nat.{◌-◌}
 use native.Mathlib.Omega.{arith}
-use Rattle.language.specs.Limits.{max_letters}
-use Rattle.reach.proofs.Rounds.{Spreading, spreading-none, spreading-more, spreading-done}
+use Rattle.reach.proofs.Rounds.{spreading-none, spreading-more, spreading-done}
 use Rattle.reach.proofs.spread.Goals as goal
 
 pub loop-a-init : goal.loop-a-init

@@ -1,8 +1,7 @@
 -- `reach::spread` meets its contract.
 use Prim.Native.Nat.{◌-◌}
-use native.Mathlib.Omega.{arith}
 use Rattle.language.specs.Limits.{max_letters}
-use Rattle.reach.proofs.Rounds.{Spreading, spreading-none, spreading-more, spreading-done}
+use Rattle.reach.proofs.Rounds.{Spreading}
 use Rattle.reach.proofs.spread.Given as goal
 
 abbrev pub invariant-loop-a : goal.invariant-loop-a

@@ -1,12 +1,8 @@
 -- `reach::with_row` meets its contract.
-use mathlib.Core.Bool.{◌||◌}
-use Prim.Native.Nat.{◌+◌, ◌-◌}
 use native.Mathlib.Omega.{arith}
 use borrow.Author.Rules.{rules}
-use Rattle.language.specs.Limits.{max_letters}
-use Rattle.reach.specs.Reach.{is_flagged}
 use Rattle.reach.specs.Rounds.{with_row}
-use Rattle.reach.proofs.Flags.{Flagging, flagging-none, flagging-more, flagging-done}
+use Rattle.reach.proofs.Flags.{flagging-none, flagging-more, flagging-done}
 use Rattle.reach.proofs.with_row.Goals as goal
 
 pub loop-b-init : goal.loop-b-init

@@ -1,7 +1,6 @@
 -- `reach::without_text` meets its contract.
 use mathlib.Core.Path.{ap, ◌∙◌}
 use mathlib.Core.Bool.{◌&&◌, not}
-use Prim.Native.Nat.{◌-◌}
 use native.Mathlib.Omega.{arith}
 use lib.ListN.{get_or}
 use lib.Dec.{eqb}
@@ -9,7 +8,7 @@ use borrow.Author.Rules.{rules}
 use Rattle.language.specs.Tables.{stands_at}
 use Rattle.language.specs.Limits.{max_letters}
 use Rattle.reach.specs.Reach.{is_flagged, missing_of}
-use Rattle.reach.proofs.Flags.{Flagging, flagging-none, flagging-more, flagging-done, flags-same, not-not}
+use Rattle.reach.proofs.Flags.{flagging-none, flagging-more, flagging-done, flags-same, not-not}
 use Rattle.reach.proofs.without_text.Goals as goal
 
 pub loop-b-init : goal.loop-b-init

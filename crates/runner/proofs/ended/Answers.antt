@@ -1,6 +1,5 @@
 -- `runner::ended` meets its contract.
 use borrow.Author.Tests.{lt-ltb, le-ltb}
-use borrow.Author.Rules.{rules}
 use Rattle.runner.proofs.ended.Goals as goal
 
 pub returns-then-m-le-FALSE : goal.returns-then-m-le-FALSE

@@ -1,5 +1,4 @@
 -- `runner::execute` meets its contract: what the interpreter reports.
-use borrow.Author.Rules.{rules}
 use Rattle.language.proofs.Letters.{letter-lt}
 use Rattle.book.specs.Calls.{Run}
 use Rattle.book.specs.Store.{Store, store_of, store_view}
@@ -11,21 +10,21 @@ pub index-k-requires : goal.index-k-requires
 index-k-requires c =
     let given : Store = store_of c.args.cells.now c.args.used.now c.args.permissions.now c.args.vars.now in
     let asks : Run =
-      record {
-        letter = c.args.letter;
-        role = c.args.role;
-        allowance = c.args.allowance;
-        inputs = c.args.inputs.now;
-        list = c.args.list.now;
-        output = c.args.output.now;
-      } in
+    record {
+      letter = c.args.letter;
+      role = c.args.role;
+      allowance = c.args.allowance;
+      inputs = c.args.inputs.now;
+      list = c.args.list.now;
+      output = c.args.output.now;
+    } in
     (free given asks c.requires).letter
 
 pub drive-m-requires : goal.drive-m-requires
 drive-m-requires c =
     let given : Store = store_of c.args.cells.now c.args.used.now c.args.permissions.now c.args.vars.now in
     let asks : Run =
-      record {
+    record {
       letter = c.args.letter;
       role = c.args.role;
       allowance = c.args.allowance;
@@ -48,7 +47,7 @@ ended-requires c = c.drive-m.ensures.over
 pub returns : goal.returns
 returns c =
     let asks : Run =
-      record {
+    record {
       letter = c.args.letter;
       role = c.args.role;
       allowance = c.args.allowance;

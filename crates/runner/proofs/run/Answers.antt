@@ -1,5 +1,4 @@
 -- `runner::run` meets its contract: the refusal that its tests come to, or what the run comes to.
-use borrow.Author.Rules.{rules}
 use Rattle.book.specs.Calls.{Run}
 use Rattle.book.specs.Store.{Store, store_of}
 use Rattle.runner.proofs.Store.{refused, admitted}
@@ -8,7 +7,7 @@ use Rattle.runner.proofs.run.Goals as goal
 pub returns-then-number-ne0 : goal.returns-then-number-ne0
 returns-then-number-ne0 c =
     let asks : Run =
-      record {
+    record {
       letter = c.args.letter;
       role = c.args.role;
       allowance = c.args.allowance;
@@ -22,7 +21,7 @@ returns-then-number-ne0 c =
 pub execute-requires : goal.execute-requires
 execute-requires c =
     let asks : Run =
-      record {
+    record {
       letter = c.args.letter;
       role = c.args.role;
       allowance = c.args.allowance;

@@ -1,6 +1,5 @@
 -- `runner::run_into` meets its contract, as `runner::run` does.
 use mathlib.Core.Path.{refl, ap}
-use borrow.Author.Rules.{rules}
 use Rattle.book.specs.Calls.{Run}
 use Rattle.book.specs.Store.{Store, store_of}
 use Rattle.runner.specs.Figures.{returned}
@@ -10,7 +9,7 @@ use Rattle.runner.proofs.run_into.Goals as goal
 pub returns-then-number-ne0 : goal.returns-then-number-ne0
 returns-then-number-ne0 c =
     let asks : Run =
-      record {
+    record {
       letter = c.args.letter;
       role = c.args.role;
       allowance = c.args.allowance;
@@ -24,7 +23,7 @@ returns-then-number-ne0 c =
 pub execute-r-requires : goal.execute-r-requires
 execute-r-requires c =
     let asks : Run =
-      record {
+    record {
       letter = c.args.letter;
       role = c.args.role;
       allowance = c.args.allowance;

@@ -43,4 +43,4 @@ shape_of-list c = c.loop-i.invariant.size
 
 pub returns : goal.returns
 returns c =
-        pasting-done _ _ _ _ _ _ c.loop-i.invariant (omega arith) ∙ paste-whole c.args.list.now c.args.slots.now max_height c.requires.places c.requires.slots
+    pasting-done _ _ _ _ _ _ c.loop-i.invariant (omega arith) ∙ paste-whole c.args.list.now c.args.slots.now max_height c.requires.places c.requires.slots
