@@ -24,7 +24,7 @@ const TOP_WIDTH: usize = 11;
 const MOST_BYTES: usize = 6 * COLUMNS + 1;
 
 // A line's columns.
-#[derive(Drop)]
+#[derive(Clone, Copy)]
 pub struct LineColumns {
     pub line: u32,
     pub answer: u32,

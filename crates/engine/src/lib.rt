@@ -12,7 +12,7 @@ use language::{LETTERS, OPEN, STORE_CELLS, VARIABLES};
 mod steps;
 
 // 26 letters' tables with their used-cell counts and permissions, and ten variables. The cells of letter a are the first 250.
-#[derive(Drop)]
+#[derive(Clone, Copy)]
 pub struct Store {
     pub cells: [i32; STORE_CELLS],
     pub used: [usize; LETTERS],
@@ -21,14 +21,14 @@ pub struct Store {
 }
 
 // The store after a define or a withdraw, and 0 or the refusal's number.
-#[derive(Drop)]
+#[derive(Clone, Copy)]
 pub struct Changed {
     pub store: Store,
     pub number: u32,
 }
 
 // The store after a run, and the figures that the run returns.
-#[derive(Drop)]
+#[derive(Clone, Copy)]
 pub struct Answer {
     pub store: Store,
     pub report: Report,

@@ -21,7 +21,7 @@ const LETTER_D: u32 = 100;
 const LETTER_M: u32 = 109;
 
 // What a define gave: its number, and the cells that letter a then uses.
-#[derive(Drop)]
+#[derive(Clone, Copy)]
 struct Linked {
     number: u32,
     cells: usize,

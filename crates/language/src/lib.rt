@@ -69,7 +69,7 @@ pub const CONSTANT_CODE: u8 = b'/' + 128;
 pub const PRINT_CODE: u8 = b'\'' + 128;
 
 // One letter's code table: how many of its cells are used, and its cells. Cell 1 of document 01 is `cells[0]`.
-#[derive(Drop)]
+#[derive(Clone, Copy)]
 pub struct Table {
     pub used: usize,
     pub cells: [i32; Table::CELLS],

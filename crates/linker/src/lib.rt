@@ -15,7 +15,7 @@ use language::{Fault, TEXT, Table};
 use lexer::{Skipped, skip, skip_fault};
 
 // Document 01's number, 0 where the text is accepted, and its table, which is cleared where it is refused.
-#[derive(Drop)]
+#[derive(Clone, Copy)]
 pub struct Linked {
     pub number: u32,
     pub table: Table,

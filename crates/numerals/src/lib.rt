@@ -32,7 +32,7 @@ pub struct Numeral {
 }
 
 // Bytes from `start` to the end of the columns, after blanks.
-#[derive(Drop)]
+#[derive(Clone, Copy)]
 struct Column {
     text: [u8; COLUMNS],
     start: usize,

@@ -53,15 +53,16 @@ pub fn session() -> Shown
     }
 }
 
+fn line(rt: HostRuntime, text: &str, n: u32) -> io::Result<()> {
+    println!(rt; "{text}{n}")
+}
+
 fn main(rt: HostRuntime) -> io::Result<()> {
     let s = session();
-    let before = s.before;
-    println!(rt; "run of q, p standing: {before}")?;
+    line(rt, "run of q, p standing: ", s.before)?;
     if s.paid == 5 {
-        println!(rt; "paid: 5")?;
+        line(rt, "paid: ", 5)?;
     }
-    let after = s.after;
-    println!(rt; "run of q, p withdrawn: {after}")?;
-    let withdrawn = s.withdrawn;
-    println!(rt; "run of p, withdrawn: {withdrawn}")
+    line(rt, "run of q, p withdrawn: ", s.after)?;
+    line(rt, "run of p, withdrawn: ", s.withdrawn)
 }
