@@ -1,5 +1,5 @@
 -- What a line does over a buffer, request by request; and a run's figures within what is lent.
-use mathlib.Core.Path.{◌≡◌, refl, sym, ap, ◌∙◌, subst}
+use mathlib.Core.Path.{◌≡◌, sym, ap, ◌∙◌, subst}
 use Prim.Native.Nat.{ℕ, ◌+◌, ◌≤◌, ◌<◌}
 use native.Mathlib.Nat.{le_trans}
 use native.Mathlib.Omega.{arith}
@@ -31,7 +31,7 @@ use Rattle.columns.specs.declared.LineColumns.{LineColumns}
 use Rattle.columns.specs.Printed as Printed
 use Rattle.columns.specs.Printed.{columns, most_bytes, paper, top}
 use Rattle.columns.proofs.Printed.{columns-most}
-use Rattle.commands.specs.Served.{output_bytes, paper_bytes, ran_columns, serves, shown, granted, desk_line, Performed, performs, printed, performed}
+use Rattle.commands.specs.Served.{output_bytes, paper_bytes, ran_columns, serves, shown, granted, desk_line, performs, printed, performed}
 
 -- ── a run's figures ─────────────────────────────────────────────────────────────────────────────
 

@@ -1,5 +1,6 @@
 // One desk line over a store whose arrays the caller lends: the call it asks for, done, and the bytes that it prints.
 #![tactic(auto)]
+
 ghost use Rattle.std.specs.Prelude.{◌≡◌, ◌≤◌, length};
 ghost use Rattle.numerals.specs.Numerals.{wrote, written};
 ghost use Rattle.columns.specs.Printed.{columns, plain_columns};

@@ -2,11 +2,11 @@
 use mathlib.Core.Path.{◌≡◌, refl, sym, ap, ◌∙◌}
 use mathlib.Core.Bool.{Bool, true, false, cond}
 use mathlib.Core.List.{List, [], ◌∷◌, ◌++◌, tail, append_assoc, append-nil}
-use Prim.Native.Nat.{ℕ, zero, suc, ◌+◌, ◌-◌, ◌≤◌, ◌<◌}
+use Prim.Native.Nat.{ℕ, zero, suc, ◌-◌, ◌≤◌, ◌<◌}
 use native.Mathlib.Omega.{arith}
 use lib.IntN.{ℤ, pos}
 use lib.ListN.{length, get_or, take, drop, replicate, length-append, length-take}
-use lib.Seq.{take_all, take-nil}
+use lib.Seq.{take_all}
 use lib.Dec.{leb, eqb}
 use borrow.Author.Tests.{lt-leb, leb-true, leb-false}
 use Rattle.language.specs.Bytes.{newline_byte}
@@ -21,7 +21,7 @@ use Rattle.book.specs.Sessions.{answers}
 use Rattle.book.proofs.History.{calls-agree}
 use Rattle.columns.specs.Printed.{columns, plain_columns}
 use Rattle.commands.specs.Served.{output_bytes, Served, shown, granted, desk_line}
-use Rattle.console.specs.Day.{max_lines, last_line, lines_from, Progress, starts, session, day_from, day_of, DayOfStore}
+use Rattle.console.specs.Day.{max_lines, lines_from, Progress, session, day_from, day_of, DayOfStore}
 use Rattle.console.specs.Steps.{line_end, kept_bytes}
 
 -- ── the store's day is the book's ───────────────────────────────────────────────────────────────

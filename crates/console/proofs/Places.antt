@@ -1,19 +1,19 @@
 -- The steps over what the caller lends.
 use mathlib.Core.Path.{◌≡◌, refl, sym, ap, ◌∙◌, subst}
 use mathlib.Core.Bool.{Bool, true, false, cond, ◌&&◌}
-use mathlib.Core.List.{List, [], ◌∷◌, ◌++◌, append-nil}
-use Prim.Native.Nat.{ℕ, zero, suc, ◌+◌, ◌*◌, ◌-◌, ◌≤◌, ◌<◌, min}
+use mathlib.Core.List.{List, [], ◌++◌, append-nil}
+use Prim.Native.Nat.{ℕ, suc, ◌+◌, ◌*◌, ◌-◌, ◌≤◌, ◌<◌, min}
 use native.Mathlib.Numerals.{add-one}
 use native.Mathlib.Omega.{arith}
 use lib.ListN.{length, get_or, take, drop, length-take, drop_of_length-le}
 use lib.Seq.{paste, paste-zero, length-paste, take-paste, take_all, take-take, take-length, length-take-le, take-append-le, take-append-add, drop-cons}
-use lib.Dec.{leb, ltb, eqb}
+use lib.Dec.{leb, ltb}
 use borrow.Author.Tests.{leb-true, leb-false, le-leb, lt-leb, lt-ltb, le-ltb, eq-eqb, ne_eqb}
 use Rattle.language.specs.Bytes.{newline_byte}
 use Rattle.numerals.specs.Numerals.{Written, wrote, written}
 use Rattle.numerals.proofs.Numerals.{written-room}
 use Rattle.book.specs.Store.{Store, store_call}
-use Rattle.commands.specs.Served.{paper_bytes, Served, desk_line, Performed, performs, performed}
+use Rattle.commands.specs.Served.{paper_bytes, performs, performed}
 use Rattle.commands.proofs.Served.{line-most, performed-room}
 use Rattle.console.specs.Day.{max_lines, Progress, day_from}
 use Rattle.console.specs.Steps.{line_end, kept_bytes, Stepped, line_done, line_grown, step_of, end_of}

@@ -2,15 +2,15 @@
 use mathlib.Core.Path.{◌≡◌, refl, sym, ap, ◌∙◌}
 use mathlib.Core.Bool.{Bool, true, false, cond, ◌&&◌}
 use mathlib.Core.List.{List, [], ◌∷◌, ◌++◌, append_assoc, append-nil}
-use Prim.Native.Nat.{ℕ, zero, suc, ◌+◌, ◌-◌, ◌≤◌, ◌<◌, min}
+use Prim.Native.Nat.{ℕ, zero, suc, ◌-◌, ◌≤◌, ◌<◌, min}
 use native.Mathlib.Omega.{arith}
 use lib.ListN.{length, take, drop, length-drop, drop_of_length-le}
-use lib.Seq.{take_all, take-nil, drop-nil}
+use lib.Seq.{take_all, take-nil}
 use lib.Dec.{ltb}
-use borrow.Author.Tests.{ltb-true, ltb-false, lt-ltb, le-ltb}
+use borrow.Author.Tests.{ltb-true, ltb-false, lt-ltb}
 use Rattle.book.specs.Store.{Store, fresh_store, store_call}
-use Rattle.commands.specs.Served.{Served, desk_line}
-use Rattle.console.specs.Day.{max_lines, last_line, lines_from, Progress, starts, session, day_from, day_of}
+use Rattle.commands.specs.Served.{Served}
+use Rattle.console.specs.Day.{max_lines, last_line, lines_from, Progress, starts, session, day_from}
 use Rattle.console.specs.Steps.{line_end, kept_bytes, Stepped, line_done, line_grown, step_of, end_of, StepContinues, EndContinues, steps_of, parts_from, joined, AnyParts}
 use Rattle.console.proofs.Day.{day-of-store, line-end-le, lines-grow, lines_end, line-cut, session-cut, day-over}
 

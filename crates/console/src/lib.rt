@@ -1,6 +1,7 @@
 // The desk as a transducer: its input goes in by parts, and what the day prints comes out, at most one line's answer a step. The store's arrays, the bytes
 // of the line so far and the paper are lent.
 #![tactic(auto)]
+
 ghost use Rattle.std.specs.Prelude.{◌≡◌, ◌≤◌, min, length};
 ghost use Rattle.book.specs.Store.{store_of};
 ghost use Rattle.console.specs.Steps.{line_end, kept_bytes};

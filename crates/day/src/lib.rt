@@ -1,5 +1,6 @@
 // The whole day from memory to memory: the bytes of an input to the bytes that the desk prints for it.
 #![tactic(auto)]
+
 ghost use Rattle.std.specs.Prelude.{◌≡◌};
 ghost use Rattle.console.specs.Day.{day_of};
 ghost use Rattle.numerals.specs.Numerals.{delivers};

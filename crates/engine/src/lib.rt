@@ -1,5 +1,6 @@
 // Document 01's form by value: a store of texts under the letters a to z, with define, withdraw and run.
 #![tactic(auto)]
+
 ghost use Rattle.std.specs.Prelude.{◌≡◌};
 ghost use Rattle.book.specs.Calls.{defines, withdraws, running};
 ghost use Rattle.book.specs.Store.{fresh_store, store_call};

@@ -1,6 +1,7 @@
 // The C library: every `extern "C"` function of the product. Each calls one function with the same contract. include/rec.h is the header; its inline
 // functions take a store apart for those here, and put figures into a report. Letters are bytes here, and what is no letter is refused below.
 #![tactic(auto)]
+
 ghost use Rattle.std.specs.Prelude.{◌≡◌};
 ghost use Rattle.language.specs.Reading.{read};
 ghost use Rattle.linker.specs.Linked.{linked};

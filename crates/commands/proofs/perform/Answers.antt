@@ -11,7 +11,6 @@ use Rattle.lines.specs.Lines.{define, request}
 use Rattle.lines.specs.Commands.{field_start, Asks}
 use Rattle.commands.specs.Served.{granted, printed}
 use Rattle.commands.proofs.Served.{changed-printed, no_room, by-request}
-use borrow.Author.Rules.{rules}
 use Rattle.commands.proofs.perform.Goals as goal
 
 pub returns-then-paper-lt-PAPER : goal.returns-then-paper-lt-PAPER

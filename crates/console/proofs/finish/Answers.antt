@@ -4,7 +4,6 @@ use native.Mathlib.Omega.{arith}
 use lib.ListN.{length-take}
 use lib.Seq.{length-take-le}
 use Rattle.console.proofs.Places.{kept-all, ends, short-line, short-paper, ends-past, ends-empty, ends-line}
-use borrow.Author.Rules.{rules}
 use Rattle.console.proofs.finish.Goals as goal
 
 pub returns-then-line-lt-KEPT : goal.returns-then-line-lt-KEPT
@@ -18,13 +17,13 @@ returns-then-place-ge-LINES c = rw c.silent-then-place-ge-LINES.ensures (ends _ 
 
 pub returns-then-place-eq0 : goal.returns-then-place-eq0
 returns-then-place-eq0 c =
-        rw c.silent-then-place-eq0.ensures
+    rw c.silent-then-place-eq0.ensures
     (ends _ _ _ _
     (ends-empty _ _ _ c.if-line-lt-KEPT.false c.if-paper-lt-PAPER.false (omega (arith, c.if-place-eq0.true, length-take c.args.place.kept c.args.line.now)) c.if-place-ge-LINES.false))
 
 pub slice_bounds-perform-end : goal.slice_bounds-perform-end
 slice_bounds-perform-end c =
-        sym (length-take-le c.least-kept.result c.args.line.now (omega (arith, c.least-kept.ensures, c.if-line-lt-KEPT.false)))
+    sym (length-take-le c.least-kept.result c.args.line.now (omega (arith, c.least-kept.ensures, c.if-line-lt-KEPT.false)))
 
 pub returns : goal.returns
 returns c =

@@ -3,7 +3,6 @@ use mathlib.Core.Path.{sym}
 use native.Mathlib.Omega.{arith}
 use lib.Seq.{length-take-le}
 use Rattle.console.proofs.Places.{keeps}
-use borrow.Author.Rules.{rules}
 use Rattle.console.proofs.keep.Goals as goal
 
 pub slice_bounds-write_bytes-end : goal.slice_bounds-write_bytes-end
@@ -11,4 +10,4 @@ slice_bounds-write_bytes-end c = sym (length-take-le c.least-n.result c.args.byt
 
 pub returns : goal.returns
 returns c =
-            keeps c.args.line.now c.args.kept c.args.bytes.now c.requires _ _ _ _ c.least-at.ensures c.least-n.ensures c.write_bytes.ensures
+    keeps c.args.line.now c.args.kept c.args.bytes.now c.requires _ _ _ _ c.least-at.ensures c.least-n.ensures c.write_bytes.ensures

@@ -1,9 +1,6 @@
 -- `console::line_end` meets its contract.
-use mathlib.Core.Path.{refl}
-use Prim.Native.Nat.{◌-◌}
 use native.Mathlib.Omega.{arith}
-use lib.ListN.{length}
-use Rattle.console.proofs.Places.{Seeking, sought, seeks-on, sought-all}
+use Rattle.console.proofs.Places.{sought, seeks-on, sought-all}
 use Rattle.console.proofs.line_end.Goals as goal
 
 pub loop-i-init : goal.loop-i-init

@@ -1,9 +1,7 @@
 -- `console::line_end` meets its contract.
-use mathlib.Core.Path.{refl}
 use Prim.Native.Nat.{◌-◌}
-use native.Mathlib.Omega.{arith}
 use lib.ListN.{length}
-use Rattle.console.proofs.Places.{Seeking, sought, seeks-on, sought-all}
+use Rattle.console.proofs.Places.{Seeking}
 use Rattle.console.proofs.line_end.Given as goal
 
 abbrev pub invariant-loop-i : goal.invariant-loop-i

@@ -4,15 +4,14 @@ use mathlib.Core.List.{List}
 use Prim.Native.Nat.{ℕ, ◌+◌, ◌*◌, ◌-◌, ◌≤◌}
 use native.Mathlib.Omega.{arith}
 use lib.ListN.{length, take, drop, length-take, length-drop, length-replicate}
-use lib.Seq.{take_all, length-take-le}
+use lib.Seq.{length-take-le}
 use borrow.Author.Rules.{rules}
-use Rattle.book.specs.Store.{store_of, fresh_store}
+use Rattle.book.specs.Store.{fresh_store}
 use Rattle.commands.specs.Served.{paper_bytes}
 use Rattle.console.specs.Day.{max_lines}
-use Rattle.console.specs.Places.{progress}
 use Rattle.console.proofs.Steps.{Takes}
 use Rattle.console.proofs.Places.{goes, end_goes}
-use Rattle.day.proofs.Played.{Turning, playing-none, playing-more, playing-ends}
+use Rattle.day.proofs.Played.{playing-none, playing-more, playing-ends}
 use Rattle.day.proofs.print.Goals as goal
 
 pub loop-at-init : goal.loop-at-init
@@ -60,7 +59,7 @@ loop-at-smaller c =
 pub loop-at-preserved : goal.loop-at-preserved
 loop-at-preserved c =
     let l = c.loop-at in
-        record {
+    record {
       playing = playing-more _ _ _ _ _ _ l.invariant.playing _ _ (omega (arith, l.invariant.line)) (omega (arith, l.invariant.paper)) _ _ _ c.write_bytes.ensures (omega (arith, c.before.before.before)) c.step-a.ensures;
       line = omega (arith, c.before.before.before.before.before.before.before.before, l.invariant.line);
       paper = omega (arith, c.before.before.before.before.before.before.before, l.invariant.paper);

@@ -1,5 +1,4 @@
 -- `engine::Store::define` meets its contract.
-use borrow.Author.Rules.{rules}
 use Rattle.engine.proofs.Store.define.Goals as goal
 
 pub returns : goal.returns

@@ -1,5 +1,4 @@
 -- `engine::Store::withdraw` meets its contract.
-use borrow.Author.Rules.{rules}
 use Rattle.engine.proofs.Store.withdraw.Goals as goal
 
 pub returns : goal.returns

@@ -1,6 +1,5 @@
 -- `rec::steps::run` meets its contract.
 use Rattle.runner.proofs.Figures.{returned-all}
-use borrow.Author.Rules.{rules}
 use Rattle.rec.proofs.steps.run.Goals as goal
 
 pub returns : goal.returns
