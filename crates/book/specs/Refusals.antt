@@ -1,5 +1,5 @@
 -- Which refusal a call meets: the numbers, and the tests in their order, one list for the store and the book.
-use Rattle.std.specs.Prelude.{ℕ, Bool, true, false, not, ◌||◌, List, [], ◌∷◌, ◌++◌, ℤ, length, eqb}
+use Rattle.std.specs.Prelude.{ℕ, Result, Ok, Err, Bool, true, false, not, ◌||◌, List, [], ◌∷◌, ◌++◌, ℤ, length, eqb}
 use Rattle.std.proofs.Math.Option.{Option, none, some}
 use Rattle.language.specs.Answers.{fault_number}
 use Rattle.language.specs.Between.{between}
@@ -25,6 +25,11 @@ refusal_number BadList = 12
 refusal_number BadStore = 13
 refusal_number NotForCashiers = 33
 refusal_number BadMark = 35
+
+-- "Define and withdraw return 0 or a refusal"
+abbrev pub answer_number : Result Unit Refusal → ℕ
+answer_number (Ok u) = 0
+answer_number (Err r) = refusal_number r
 
 -- a number that refuses; 14 is a desk line's
 abbrev pub is_refusal : ℕ → Bool

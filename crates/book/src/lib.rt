@@ -3,12 +3,13 @@
 
 ghost use Rattle.std.specs.Prelude.{◌≡◌};
 ghost use Rattle.book.specs.Replies.{plain};
-ghost use Rattle.book.specs.Refusals.{refusal_number};
+ghost use Rattle.book.specs.Refusals.{refusal_number, answer_number};
+ghost use Rattle.book.specs.declared.Refusal.TheVariants.{BadText};
 
 use language::Fault;
 
 // Why a call on a store is refused, in the order of the documents' numbers: 1, 2 to 9, 10 to 13, 33 and 35.
-#[derive(Clone, Copy)]
+#[derive(Clone, Copy, Debug, PartialEq, Eq)]
 pub enum Refusal {
     NoSuchLetter,
     BadText(Fault),
@@ -38,9 +39,28 @@ impl Refusal {
     }
 }
 
+impl From<Fault> for Refusal {
+    ghost from_gives = { λ f r. r ≡ BadText f };
+
+    // The refusal of a text with this fault.
+    fn from(fault: Fault) -> Refusal {
+        Refusal::BadText(fault)
+    }
+}
+
+// "Define and withdraw return 0 or a refusal"
+pub fn answer_number(answer: Result<(), Refusal>) -> u32
+    ensures { result ≡ answer_number answer }
+{
+    match answer {
+        Ok(()) => 0,
+        Err(refusal) => refusal.number(),
+    }
+}
+
 // The figures that a call returns: "the ending, truth (false unless finished), steps, list height, inputs taken and output length". The number is
 // 0, the ending's or the refusal's.
-#[derive(Clone, Copy)]
+#[derive(Clone, Copy, Debug, PartialEq, Eq)]
 pub struct Report {
     pub number: u32,
     pub truth: bool,

@@ -69,7 +69,7 @@ pub const CONSTANT_CODE: u8 = b'/' + 128;
 pub const PRINT_CODE: u8 = b'\'' + 128;
 
 // One letter's code table: how many of its cells are used, and its cells. Cell 1 of document 01 is `cells[0]`.
-#[derive(Clone, Copy)]
+#[derive(Clone, Copy, Debug, PartialEq, Eq)]
 pub struct Table {
     pub used: usize,
     pub cells: [i32; Table::CELLS],
@@ -102,7 +102,7 @@ impl Table {
 }
 
 // The first fault of a text that is refused, in the order of document 01's numbers, 2 to 9.
-#[derive(Clone, Copy)]
+#[derive(Clone, Copy, Debug, PartialEq, Eq)]
 pub enum Fault {
     LongText,
     StrayMark,
@@ -133,7 +133,7 @@ impl Fault {
 }
 
 // How a run ends: 0 and the documents' numbers 20 to 29 and 34.
-#[derive(Clone, Copy)]
+#[derive(Clone, Copy, Debug, PartialEq, Eq)]
 pub enum Ending {
     Finished,
     Spent,
