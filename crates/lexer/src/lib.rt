@@ -252,40 +252,20 @@ fn token_at(text: &[u8], at: usize) -> Result<Lexed, Fault>
     }
     let next = at + 1;
     let b = text[at];
-    match kind_of(b) {
-        Kind::Open => Ok(Lexed {
-            token: Token::Open,
-            next,
-        }),
-        Kind::Close => Ok(Lexed {
-            token: Token::Close,
-            next,
-        }),
-        Kind::Semicolon => Ok(Lexed {
-            token: Token::Semicolon,
-            next,
-        }),
-        Kind::Colon => Ok(Lexed {
-            token: Token::Colon,
-            next,
-        }),
-        Kind::Operator => Ok(Lexed {
-            token: Token::Operator(b),
-            next,
-        }),
-        Kind::Access => variable(text, next, b),
-        Kind::Condition => Ok(Lexed {
-            token: Token::Condition(b),
-            next,
-        }),
-        Kind::Letter => Ok(Lexed {
-            token: Token::Call(b),
-            next,
-        }),
-        Kind::Dollar => counter(text, next),
-        Kind::Tick => quoted(text, next),
-        Kind::Blank | Kind::Quote | Kind::Digit | Kind::Stray => Err(Fault::StrayMark),
-    }
+    let token = match kind_of(b) {
+        Kind::Open => Token::Open,
+        Kind::Close => Token::Close,
+        Kind::Semicolon => Token::Semicolon,
+        Kind::Colon => Token::Colon,
+        Kind::Operator => Token::Operator(b),
+        Kind::Access => return variable(text, next, b),
+        Kind::Condition => Token::Condition(b),
+        Kind::Letter => Token::Call(b),
+        Kind::Dollar => return counter(text, next),
+        Kind::Tick => return quoted(text, next),
+        Kind::Blank | Kind::Quote | Kind::Digit | Kind::Stray => return Err(Fault::StrayMark),
+    };
+    Ok(Lexed { token, next })
 }
 
 // The next token after blanks and comments.
