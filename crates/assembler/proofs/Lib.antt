@@ -1,5 +1,1 @@
-pub mod ExitsLayout
-pub mod ExitsFilling
-pub mod ScanningCells
-pub mod ScanningSimulation
-pub mod Scanning
+
