@@ -44,6 +44,7 @@ impl Exits {
 }
 
 // The used cells, from the last one back.
+#[tactic(auto, using(crate::proofs::ExitsFilling::filled_down, crate::proofs::ExitsFilling::filled_none), unfolding(crate::specs::Exits::linked))]
 pub fn fill(draft: &mut Draft)
     requires { Fillable draft.old }
     ensures { draft.new ≡ linked draft.old }

@@ -32,6 +32,7 @@ fn take(draft: &mut Draft, text: &[u8], token: Token) -> Result<(), Fault>
 }
 
 // From the place after the outermost `(` to the place after its `)`.
+#[tactic(auto, using(crate::proofs::Scanning::starts_out, crate::proofs::Scanning::bounds, crate::proofs::Scanning::fine, crate::proofs::Scanning::goes_on, crate::proofs::Scanning::is_refused, crate::proofs::Scanning::not_end, crate::proofs::Scanning::ends_whole))]
 pub fn scan(text: &[u8], from: usize, draft: &mut Draft) -> Result<usize, Fault>
     requires { Blank text.now draft.old }
     ensures { Scans text.now from result draft.new }
