@@ -185,7 +185,7 @@ impl Draft {
         ensures { Steps closed self.old result self.new }
     {
         if self.level == 1 {
-            self.room(2)?;
+            self.room(2)?; // "both its cells"
             self.level = 0;
             self.put(0, Open::Close(0));
             self.put(1, Open::Known);
