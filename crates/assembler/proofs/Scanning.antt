@@ -1,6 +1,7 @@
 -- The loop of the first pass: from the outermost `(` to a refusal or to the last `)`.
 use mathlib.Core.Path.{◌≡◌, refl, sym, ap, ◌∙◌, subst}
-use mathlib.Core.List.{List, []}
+use mathlib.Core.List.{List, [], ◌∷◌}
+use mathlib.Core.Logic.{◌⊎◌}
 use Prim.Native.Nat.{ℕ}
 use native.Mathlib.Omega.{arith}
 use lib.ListN.{drop}
@@ -8,7 +9,7 @@ use Rattle.std.specs.Prelude.{Result, Ok, Err, is_err}
 use Rattle.std.proofs.lemmas.Bool.{true≢false}
 use Rattle.language.specs.declared.Fault.{Fault}
 use Rattle.language.specs.Layout.{code_start}
-use Rattle.language.specs.Tokens.{Token, idle, tokens}
+use Rattle.language.specs.Tokens.{Token, begins, faults, idle, tokens}
 use Rattle.language.specs.Reading.{Reading, refused}
 use Rattle.lexer.specs.declared.Token as Lexer
 use Rattle.lexer.specs.declared.Token.TheVariants as T
@@ -18,7 +19,7 @@ use Rattle.emitter.specs.Drafts.{fresh, Inside}
 use Rattle.assembler.specs.Taking.{taken, Fine}
 use Rattle.assembler.specs.Scanning.{parsed_from, Ends}
 use Rattle.assembler.proofs.ScanningCells.{head_cell}
-use Rattle.assembler.proofs.ScanningSimulation.{Image, Stands, Outcome, goes, closes-all, one_token}
+use Rattle.assembler.proofs.ScanningSimulation.{Image, Stands, Outcome, goes, closes-all, one_token, one_fault}
 
 -- ── the start ───────────────────────────────────────────────────────────────────────────────────
 
@@ -70,15 +71,18 @@ pub is_refused : (s : List ℕ) (l l' : List Token) (t : Lexer.Token) (P : Readi
     → taken s t d ≡ Err why → P ≡ refused why
 is_refused s l l' t P d why h n m k = subst (Outcome P l') k (outcome s l l' t P d h n m)
 
+pub is_faulty : (l : List Token) (P : Reading) (d : Draft) (why : Fault) → Stands P l d → (d.level ≡ 0 → ⊥) → (l ≡ faults why ∷ []) ⊎ (l ≡ begins ∷ faults why ∷ [])
+    → P ≡ refused why
+is_faulty l P d why (goes f st q c p im) n m = p ∙ one_fault [] [] d f st q c im why l m
+is_faulty l P d why (closes-all w p v r) n m = absurd (n v)
+
 -- a token that the pass goes on after is not the end
 pub not_end : (s : List ℕ) (t : Lexer.Token) (d e : Draft) → taken s t d ≡ Ok e → t ≡ T.End → ⊥
 unfolding taken
 not_end s t d e k q = err-not-ok _ e (sym (ap (λ t. taken s t d) q) ∙ k)
 
 pub fine : (s : List ℕ) (t : Lexer.Token) (l l' : List Token) → Means s t l l' → Fine s t
-fine s T.Blank l l' m = tt
 fine s T.End l l' m = tt
-fine s (T.Fault r) l l' m = tt
 fine s T.Open l l' m = tt
 fine s T.Close l l' m = tt
 fine s T.Semicolon l l' m = tt

@@ -2,7 +2,7 @@
 use mathlib.Core.Path.{◌≡◌, refl, sym, ap, ◌∙◌, subst}
 use mathlib.Core.Bool.{Bool, true, false}
 use mathlib.Core.List.{List, [], ◌∷◌, ◌++◌}
-use mathlib.Core.Logic.{inl, inr}
+use mathlib.Core.Logic.{◌⊎◌, inl, inr}
 use Prim.Native.Nat.{ℕ, suc, ◌+◌, ◌-◌, ◌≤◌, ◌<◌}
 use native.Mathlib.Omega.{arith}
 use lib.IntN.{ℤ, pos}
@@ -16,7 +16,7 @@ use Rattle.language.specs.declared.Fault.{Fault}
 use Rattle.language.specs.declared.Fault.TheVariants.{TableFull}
 use Rattle.language.specs.Syntax.{Operation, operator, variable, constant, print}
 use Rattle.language.specs.Syntax.{condition, counter, Expr, close, semi, colon, operate, test, call, inner}
-use Rattle.language.specs.Tokens.{Token, opens, closes, semis, colons, begins, does, asks, counts, calls}
+use Rattle.language.specs.Tokens.{Token, opens, closes, semis, colons, begins, faults, does, asks, counts, calls}
 use Rattle.language.specs.Layout.{after_operation, after_predicate, after_expr, used_cells, code_start, opcode}
 use Rattle.language.specs.Reading.{Reading, refused, Place, inside, whole, require, extend, within, parse}
 use Rattle.lexer.specs.declared.Token as Lexer
@@ -334,12 +334,14 @@ module _ (s : List ℕ) (l : List Token) (d : Draft) (f : Expr → Expr) (st : L
   operating-on : (o : Operation) → Outcome (extend (λ e. f (operate o e)) st (after_operation o q) c (λ p. parse l p)) l (fit d (operation_draft o))
   operating-on o = extended l d f (operate o) st q c (after_operation o q) (operation_draft o) im (operation-low o) (operation-far o q) (λ e r. refl) (λ e. refl)
 
+  pub one_fault : (r : Fault) (ts : List Token) → (ts ≡ faults r ∷ []) ⊎ (ts ≡ begins ∷ faults r ∷ []) → parse ts at ≡ refused r
+  unfolding parse
+  one_fault r ts (inl m) = ap (λ t. parse t at) m
+  one_fault r ts (inr m) = ap (λ t. parse t at) m
+
   pub one_token : (t : Lexer.Token) (ts : List Token) → Means s t ts l → Outcome (parse ts at) l (taken s t d)
   unfolding parse within taken coloned
-  one_token T.Blank ts m = goes f st q c (ap (λ t. parse t at) m) im
   one_token T.End ts m = ap (λ t. parse t at) m
-  one_token (T.Fault r) ts (inl m) = ap (λ t. parse t at) m
-  one_token (T.Fault r) ts (inr m) = ap (λ t. parse t at) m
   one_token T.Open ts m = from ts (opens ∷ l) (opened d) m (opening l d f st q c im)
   one_token T.Close ts m = from ts (closes ∷ l) (closed d) m (closing-any l d f st q c im)
   one_token T.Semicolon ts m =

@@ -1,5 +1,5 @@
 -- What the first pass makes of a token.
-use Rattle.std.specs.Prelude.{Result, Ok, Err, List, [], ◌∷◌, ℕ, ◌+◌, ◌≤◌, pos, length, take, drop}
+use Rattle.std.specs.Prelude.{Result, Err, List, [], ◌∷◌, ℕ, ◌+◌, ◌≤◌, pos, length, take, drop}
 use Rattle.language.specs.Limits.{max_text, max_limit}
 use Rattle.language.specs.Syntax.{constant_code}
 use Rattle.language.specs.Layout.{opcode}
@@ -12,9 +12,7 @@ use Rattle.emitter.specs.Drafts.{known, semi_at, fit, opened, closed, coloned, o
 
 -- a token of the text s
 unfoldable pub taken : List ℕ → Lexer.Token → Draft → Result Draft Fault
-taken s T.Blank d = Ok d
 taken s T.End d = Err Unfinished
-taken s (T.Fault r) d = Err r
 taken s T.Open d = opened d
 taken s T.Close d = closed d
 taken s T.Semicolon d = fit d (semi_at d.level ∷ [])
@@ -29,9 +27,7 @@ taken s (T.Print a n) d = fit d (print_cells (take n (drop a s)))
 
 -- the numbers of a token of the text s
 abbrev pub Fine : List ℕ → Lexer.Token → Type 0
-Fine s T.Blank = Unit {0}
 Fine s T.End = Unit {0}
-Fine s (T.Fault r) = Unit {0}
 Fine s T.Open = Unit {0}
 Fine s T.Close = Unit {0}
 Fine s T.Semicolon = Unit {0}

@@ -14,9 +14,7 @@ fn take(draft: &mut Draft, text: &[u8], token: Token) -> Result<(), Fault>
     ensures { Steps (taken text.now token) draft.old result draft.new }
 {
     match token {
-        Token::Blank => Ok(()),
         Token::End => Err(Fault::Unfinished),
-        Token::Fault(why) => Err(why),
         Token::Open => draft.open(),
         Token::Close => draft.close(),
         Token::Semicolon => draft.semicolon(),
@@ -32,16 +30,16 @@ fn take(draft: &mut Draft, text: &[u8], token: Token) -> Result<(), Fault>
 }
 
 // From the place after the outermost `(` to the place after its `)`.
-#[tactic(auto, using(crate::proofs::Scanning::starts_out, crate::proofs::Scanning::bounds, crate::proofs::Scanning::fine, crate::proofs::Scanning::goes_on, crate::proofs::Scanning::is_refused, crate::proofs::Scanning::not_end, crate::proofs::Scanning::ends_whole))]
+#[tactic(auto, using(crate::proofs::Scanning::bounds, crate::proofs::Scanning::fine, crate::proofs::Scanning::not_end, crate::proofs::Scanning::ends_whole))]
 pub fn scan(text: &[u8], from: usize, draft: &mut Draft) -> Result<usize, Fault>
     requires { Blank text.now draft.old }
     ensures { Scans text.now from result draft.new }
 {
     let mut at = from;
     while draft.level != 0 {
-        let r = next_token(text, at);
-        take(draft, text, r.token)?;
-        at = r.next;
+        let lexed = next_token(text, at)?;
+        take(draft, text, lexed.token)?;
+        at = lexed.next;
     }
     Ok(at)
 }

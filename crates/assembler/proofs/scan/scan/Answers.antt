@@ -2,22 +2,26 @@
 use Rattle.std.proofs.Common.{rules, ◌≡◌}
 use Rattle.language.specs.Reading.{refused}
 use Rattle.assembler.specs.Scanning.{parsed_from}
-use Rattle.assembler.proofs.Scanning.{starts_out, goes_on, is_refused}
+use Rattle.assembler.proofs.Scanning.{starts_out, goes_on, is_refused, is_faulty}
 use Rattle.assembler.proofs.scan.scan.Goals as goal
 
 pub loop-draft-init : goal.loop-draft-init
 loop-draft-init c = starts_out c.args.text.now c.args.from _ c.requires.draft-blank
 
+pub returns-in_err-lexed : goal.returns-in_err-lexed
+returns-in_err-lexed c =
+    let r : parsed_from c.args.text.now c.args.from ≡ refused c.in_err-lexed.field-0.0 =
+    is_faulty _ _ c.loop-draft.draft _ c.loop-draft.invariant c.loop-draft-test.true c.in_err-lexed.ensures in
+    search rules
+
 pub returns-in_err-take : goal.returns-in_err-take
 returns-in_err-take c =
-    let l = c.loop-draft in
-    let n = c.next_token-r in
+    let t = c.in_ok-lexed in
     let r : parsed_from c.args.text.now c.args.from ≡ refused c.in_err-take.field-0.0 =
-    is_refused c.args.text.now _ _ n.result.token _ l.draft _ l.invariant c.loop-draft-test.true n.ensures.means (c.in_err-take.ensures).0 in
+    is_refused c.args.text.now _ _ t.lexed.token _ c.loop-draft.draft _ c.loop-draft.invariant c.loop-draft-test.true t.ensures.means (c.in_err-take.ensures).0 in
     search rules
 
 pub loop-draft-preserved : goal.loop-draft-preserved
 loop-draft-preserved c =
-    let l = c.loop-draft in
-    let n = c.next_token-r in
-    goes_on c.args.text.now _ _ n.result.token _ l.draft _ l.invariant c.loop-draft-test.true n.ensures.means c.in_ok-take.ensures
+    let t = c.in_ok-lexed in
+    goes_on c.args.text.now _ _ t.lexed.token _ c.loop-draft.draft _ c.loop-draft.invariant c.loop-draft-test.true t.ensures.means c.in_ok-take.ensures
