@@ -65,15 +65,9 @@ pub fn define(
         vars,
     }
     .define(letter, permission)?;
+    let k = admission::index(letter);
     let table = linker::link(text)?;
-    put(
-        cells,
-        used,
-        permissions,
-        admission::index(letter),
-        table,
-        permission,
-    );
+    put(cells, used, permissions, k, table, permission);
     Ok(())
 }
 
@@ -94,13 +88,7 @@ pub fn withdraw(
         vars,
     }
     .text(letter)?;
-    put(
-        cells,
-        used,
-        permissions,
-        admission::index(letter),
-        Table::fresh(),
-        OPEN,
-    );
+    let k = admission::index(letter);
+    put(cells, used, permissions, k, Table::fresh(), OPEN);
     Ok(())
 }
