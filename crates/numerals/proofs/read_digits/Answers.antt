@@ -26,7 +26,7 @@ pub overflow_add-value : goal.overflow_add-value
 overflow_add-value c =
     let l = c.loop-at in
     let p = pow-up l.value l.count 8 (omega (arith, ltb-true)) l.invariant.below in
-    record { fits = omega (arith, c.wide.ensures) }
+    record { fits = omega (arith, c.from.ensures) }
 
 pub overflow_add-count : goal.overflow_add-count
 overflow_add-count c = omega arith
@@ -40,7 +40,7 @@ loop-at-smaller c = omega arith
 pub loop-at-preserved : goal.loop-at-preserved
 loop-at-preserved c =
     let l = c.loop-at in
-    rw c.wide.ensures (reading-more _ _ _ _ _ _ l.invariant (omega arith) (omega (arith, ltb-true)) (omega (arith, ltb-true)) (omega arith) (omega arith))
+    rw c.from.ensures (reading-more _ _ _ _ _ _ l.invariant (omega arith) (omega (arith, ltb-true)) (omega (arith, ltb-true)) (omega arith) (omega arith))
 
 pub returns-else-count-lt-DIGITS : goal.returns-else-count-lt-DIGITS
 returns-else-count-lt-DIGITS c = reading-done _ _ _ _ _ c.loop-at.invariant (λ a b h. absurd (omega (arith, ltb-false)))
