@@ -7,16 +7,16 @@ use native.Mathlib.Nat.{pow-suc, pow-le-pow_right}
 use native.Mathlib.Numerals.{add-one}
 use native.Mathlib.Omega.{arith}
 use lib.ListN.{length, get_or, take, drop, replicate, length-append, length-drop, length-replicate}
-use lib.Seq.{paste, drop-cons, drop-drop, take_all, take-length, take-paste, drop-paste, length-paste, length-take-le}
+use Rattle.std.specs.List.{slice_range}
+use lib.Seq.{get_or-take, get_or-drop, paste, drop-cons, drop-drop, take_all, take-length, take-paste, drop-paste, length-paste, length-take-le}
 use lib.Dec.{lit<, leb}
 use borrow.Rule.Slice.PartMut.{put_mid}
 use borrow.Author.Tests.{le-leb, lt-leb, leb-true}
 use Rattle.language.specs.Decimals.{max_digits, justified}
-use Rattle.language.specs.Bytes.{blank_byte, digit_byte, is_digit}
+use Rattle.language.specs.Bytes.{blank_byte, digit_byte}
 use Rattle.language.specs.Grammar.{Digits, digit_bytes, value_from}
-use Rattle.numerals.specs.declared.Numeral.{Numeral}
 use Rattle.language.proofs.Copies.{Pasting, pasting-done}
-use Rattle.numerals.specs.Numerals.{DigitsAt, Reads, Written, wrote, written, delivers, delivered, Ends}
+use Rattle.numerals.specs.Numerals.{DigitsAt, Written, wrote, written, delivers, delivered, Ends}
 
 -- ── read ────────────────────────────────────────────────────────────────────────────────────────
 
@@ -49,18 +49,6 @@ pub record Reading (s : List ℕ) (from most i n v : ℕ) : Type 0 where
   pub below : v < 10 ^ n
   pub inside : from ≤ length s → i ≤ length s
 
-pub reading-none : (s : List ℕ) (from most : ℕ) → Reading s from most from 0 0
-reading-none s from most =
-    record {
-      stand =
-          record { list = []; each = tt; counted = refl; valued = refl; bytes = let e : from ≡ from + 0 = omega arith in ap (λ j. drop j s) e };
-      place = omega arith;
-      few = omega arith;
-      short = omega arith;
-      below = omega arith;
-      inside = λ h. h;
-    }
-
 module _ (s : List ℕ) (from most i n v : ℕ) (r : Reading s from most i n v) where
   -- one digit more
   pub reading-more : i < length s → n < most → n < max_digits → digit_byte 0 ≤ get_or s i 0 → get_or s i 0 ≤ digit_byte 9
@@ -91,24 +79,10 @@ module _ (s : List ℕ) (from most i n v : ℕ) (r : Reading s from most i n v) 
         inside = λ _. omega arith;
       }
 
--- nothing more
-pub reading-done : (s : List ℕ) (from most i : ℕ) (q : Numeral) → Reading s from most i q.count q.value
-    → (q.count < most → q.count < max_digits → i < length s → is_digit (get_or s i 0) ≡ false) → Reads s from most q
-reading-done s from most i q r f =
-    record {
-      stand = r.stand;
-      few = r.few;
-      short = r.short;
-      below = r.below;
-      inside = λ h. let k = r.inside h in omega (arith, r.place);
-      whole = λ a b h. ap (λ j. is_digit (get_or s j 0)) (sym r.place) ∙ f a b (omega (arith, r.place));
-    }
-
-pub digit_low : (b : ℕ) → b < digit_byte 0 → is_digit b ≡ false
-digit_low b h = simp (lt-leb (digit_byte 0) b h)
-
-pub digit-high : (b : ℕ) → digit_byte 9 < b → is_digit b ≡ false
-digit-high b h = simp (le-leb (digit_byte 0) b (omega arith), lt-leb b (digit_byte 9) h)
+-- a byte of the rest of a text
+pub rest-at : (s r : List ℕ) (from i : ℕ) → r ≡ slice_range s from (length s) → length r + from ≡ length s → i < length r
+    → get_or r i 0 ≡ get_or s (from + i) 0
+rest-at s r from i e n h = ap (λ (t : List ℕ). get_or t i 0) e ∙ get_or-take (length s - from) (drop from s) i 0 (omega arith) ∙ get_or-drop from s i 0
 
 -- ── written ─────────────────────────────────────────────────────────────────────────────────────
 

@@ -25,7 +25,7 @@ const UNIT_CENTS: u32 = 100;
 const POINT: usize = COLUMNS - 3;
 
 // Digits that stand at a place of a text: how many, and their value.
-#[derive(Clone, Copy)]
+#[derive(Clone, Copy, Debug, PartialEq, Eq)]
 pub struct Numeral {
     pub count: usize,
     pub value: u32,
@@ -42,22 +42,18 @@ struct Column {
 pub fn read_digits(text: &[u8], from: usize, most: usize) -> Numeral
     ensures { Reads text.now from most result }
 {
-    let mut at = from;
-    let mut count: usize = 0;
-    let mut value: u32 = 0;
-    while at < text.len() && count < most && count < DIGITS {
-        let b = text[at];
-        if b < b'0' {
-            return Numeral { count, value };
+    let mut read = Numeral { count: 0, value: 0 };
+    let Some(rest) = text.get(from..) else {
+        return read;
+    };
+    for b in rest {
+        if read.count == most || read.count == DIGITS || !(b'0'..=b'9').contains(b) {
+            return read;
         }
-        if b'9' < b {
-            return Numeral { count, value };
-        }
-        value = 10 * value + u32::from(b - b'0');
-        count += 1;
-        at += 1;
+        read.value = 10 * read.value + u32::from(*b - b'0');
+        read.count += 1;
     }
-    Numeral { count, value }
+    read
 }
 
 // A number, or its negative, within the values; 0 where it is past them.
