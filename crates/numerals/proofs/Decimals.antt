@@ -16,7 +16,7 @@ use Rattle.language.specs.Limits.{write_width}
 use Rattle.language.specs.Money.{unit_cents, pointed, amount, money}
 use Rattle.language.specs.Effects.{column}
 use Rattle.language.proofs.Decimals.{room_for, many, few, length-decimals}
-use Rattle.numerals.specs.Numerals.{max_columns, point_column, Ends, Roomy}
+use Rattle.numerals.specs.Numerals.{max_columns, Ends, Roomy}
 
 -- ── from the right ──────────────────────────────────────────────────────────────────────────────
 
@@ -196,10 +196,10 @@ pub roomy : (text : List ℕ) (k : ℕ) (d : List ℕ) → max_decimals ≤ k �
 roomy text k d h e = record { fits = h; ends = record { columns = e.columns; room = e.room; blanks = e.blanks; rest = refl } }
 
 -- the units before the point and the cents
-pub money-whole : (v : ℤ) (n : ℕ) (cents text : List ℕ) (k : ℕ) → n ≡ nat_abs v → Ends cents point_column (pointed (n % unit_cents))
-    → Ends text k (decimals (lt_z v (pos 0)) (n / unit_cents) ++ drop point_column cents) → text ≡ column v
+pub money-whole : (v : ℤ) (n : ℕ) (cents : List ℕ) (p : ℕ) (text : List ℕ) (k : ℕ) → n ≡ nat_abs v → Ends cents p (pointed (n % unit_cents))
+    → Ends text k (decimals (lt_z v (pos 0)) (n / unit_cents) ++ drop p cents) → text ≡ column v
 unfolding column
-money-whole v n cents text k h e f =
+money-whole v n cents p text k h e f =
     whole text k _ f
     ∙ ap (λ (d : List ℕ). justified write_width (decimals (lt_z v (pos 0)) (n / unit_cents) ++ d)) e.rest
     ∙ ap (λ (m : ℕ). justified write_width (amount (lt_z v (pos 0)) m)) h

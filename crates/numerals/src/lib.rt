@@ -38,6 +38,13 @@ struct Column {
     start: usize,
 }
 
+impl Column {
+    const BLANK: Column = Column {
+        text: [b' '; COLUMNS],
+        start: COLUMNS,
+    };
+}
+
 // The digits that stand at a place, at most `most` and at most 9.
 pub fn read_digits(text: &[u8], from: usize, most: usize) -> Numeral
     ensures { Reads text.now from most result }
@@ -93,14 +100,14 @@ fn digit_byte(n: u32) -> u8
     b'0' + (n as u8)
 }
 
-// A number's digits, after a `-` if it is said, before the bytes that stand from `end` on. Two digits at a time.
-fn column_of(ending: [u8; COLUMNS], end: usize, minus: bool, number: u32) -> Column
-    requires { Roomy ending end }
-    ensures { Ends result.text result.start (decimals minus number ++ drop end ending) }
+// A number's digits, after a `-` if it is said, before the bytes that end the columns. Two digits at a time.
+fn column_of(ending: Column, minus: bool, number: u32) -> Column
+    requires { Roomy ending.text ending.start }
+    ensures { Ends result.text result.start (decimals minus number ++ drop ending.start ending.text) }
 {
-    let mut text = ending;
+    let mut text = ending.text;
     let mut n = number;
-    let mut start: usize = end - 1;
+    let mut start = ending.start - 1;
     while 99 < n {
         let pair = n % 100;
         text[start] = digit_byte(pair % 10);
@@ -126,7 +133,7 @@ fn column_of(ending: [u8; COLUMNS], end: usize, minus: bool, number: u32) -> Col
 pub fn write_number(out: &mut [u8], at: usize, width: usize, minus: bool, number: u32) -> usize
     ensures { wrote result out.new ≡ written out.old at (justified width (decimals minus number)) }
 {
-    let column = column_of([b' '; COLUMNS], COLUMNS, minus, number);
+    let column = column_of(Column::BLANK, minus, number);
     let digits = &column.text[column.start..];
     let blanks = width.saturating_sub(digits.len());
     if !fits(out.len(), at, blanks + digits.len()) {
@@ -138,15 +145,16 @@ pub fn write_number(out: &mut [u8], at: usize, width: usize, minus: bool, number
 }
 
 // The point and two digits of cents, at the end of the columns.
-fn cents_column(cents: u32) -> [u8; COLUMNS]
+fn cents_column(cents: u32) -> Column
     requires { cents < unit_cents }
-    ensures { Ends result point_column (pointed cents) }
+    ensures ends { Ends result.text result.start (pointed cents) }
+    ensures start { result.start ≡ point_column }
 {
     let mut text = [b' '; COLUMNS];
     text[POINT + 2] = digit_byte(cents % 10);
     text[POINT + 1] = digit_byte(cents / 10);
     text[POINT] = b'.';
-    text
+    Column { text, start: POINT }
 }
 
 // Document 02, U6: "`O` shall write units, a point and two digits of cents, right-justified in 14 columns"
@@ -154,8 +162,8 @@ pub fn money_column(value: i32) -> [u8; WRITE_WIDTH]
     ensures { result ≡ column value }
 {
     let n = value.unsigned_abs();
-    let ending = cents_column(n % UNIT_CENTS);
-    let column = column_of(ending, POINT, value < 0, n / UNIT_CENTS);
+    let cents = cents_column(n % UNIT_CENTS);
+    let column = column_of(cents, value < 0, n / UNIT_CENTS);
     column.text
 }
 
