@@ -4,9 +4,6 @@ use mir.Facts.{to_z-of_z}
 use Rattle.numerals.proofs.Decimals.{roomy, money-whole}
 use Rattle.numerals.proofs.money_column.Goals as goal
 
-pub cents_column-cents-requires : goal.cents_column-cents-requires
-cents_column-cents-requires c = omega arith
-
 pub column_of-column-requires : goal.column_of-column-requires
 column_of-column-requires c = roomy _ _ _ (omega (arith, c.cents_column-cents.ensures.start)) c.cents_column-cents.ensures.ends
 
