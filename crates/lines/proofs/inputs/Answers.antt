@@ -12,20 +12,8 @@ loop-i-init c = taking-none _ _ _ _ _ c.requires
 pub returns-then-count-eq-INPUTS : goal.returns-then-count-eq-INPUTS
 returns-then-count-eq-INPUTS c = taking-full _ _ _ _ _ _ _ c.loop-i.invariant (omega arith) c.if-count-eq-INPUTS.true
 
-pub overflow_add-i : goal.overflow_add-i
-overflow_add-i c = omega arith
-
-pub read_input-requires : goal.read_input-requires
-read_input-requires c = omega arith
-
 pub returns-in_err-v : goal.returns-in_err-v
 returns-in_err-v c = rw c.from_residual.ensures (taking-bad _ _ _ _ _ _ _ c.loop-i.invariant (omega arith) (omega arith) (c.in_err-v.ensures))
-
-pub bounds-values-count : goal.bounds-values-count
-bounds-values-count c = omega arith
-
-pub overflow_add-count : goal.overflow_add-count
-overflow_add-count c = omega arith
 
 pub loop-i-smaller : goal.loop-i-smaller
 loop-i-smaller c =

@@ -4,7 +4,7 @@ use Rattle.numerals.proofs.Decimals.{Rendering}
 use Rattle.numerals.proofs.column_of.Given as goal
 
 abbrev pub invariant-loop-n : goal.invariant-loop-n
-invariant-loop-n l = Rendering l.number (drop l.end l.initial.text) l.text l.n l.start
+invariant-loop-n l = Rendering l.number (drop l.fn.ending.start l.fn.ending.text) l.text l.n l.start
 
 abbrev pub decreases-loop-n : goal.decreases-loop-n
 decreases-loop-n l = l.n
