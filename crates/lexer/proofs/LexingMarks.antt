@@ -35,7 +35,7 @@ Marked K.Tick s from i = tokens (drop from s) idle ≡ begins ∷ tokens (drop (
 Marked K.Digit s from i = tokens (drop from s) idle ≡ faults StrayMark ∷ []
 Marked K.Stray s from i = tokens (drop from s) idle ≡ faults StrayMark ∷ []
 
-module _ (s : List ℕ) (from i : ℕ) (skipped : Skipping s from i) (h : i < length s) (fits : get_or s i 0 < 256) where
+module _ {s : List ℕ} {from i : ℕ} (skipped : Skipping s from i) (h : i < length s) (fits : get_or s i 0 < 256) where
   whole : (x : Lexer.Token) → Means s x (tokens (drop from s) idle) (tokens (drop (i + 1) s) idle) → Read s from i x
   whole x q = record { means = q; further = λ _. omega (arith, skipped.after); inside = λ _. omega arith }
 

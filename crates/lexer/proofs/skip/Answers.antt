@@ -19,7 +19,8 @@ returns-in_err-at-in-34 c =
     let e : r.0 ≡ c.in_err-at-in-34.field-0.0 = r.2 in
     subst (SkipsOver s c.args.from) (sym r.1)
     (record {
-      skips = sym l.invariant.same ∙ tokens-first s l.at c.loop-at-test.true _ (the-quote (get_or s l.at 0) c.in-34.is) ∙ c.in_err-at-in-34.ensures ∙ ap (λ r. faults r ∷ []) (sym e);
+      skips = sym l.invariant.same ∙ tokens-first s l.at c.loop-at-test.true _ (the-quote (get_or s l.at 0) c.in-34.is)
+          ∙ c.in_err-at-in-34.ensures ∙ ap (λ r. faults r ∷ []) (sym e);
       settles = tt;
     })
 
