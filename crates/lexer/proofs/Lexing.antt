@@ -194,3 +194,8 @@ pub record Skipping (s : List ℕ) (from at : ℕ) : Type 0 where
   pub after : from ≤ at
   pub inside : from < at → at ≤ length s
   pub same : tokens (drop at s) idle ≡ tokens (drop from s) idle
+
+-- a comment whose first byte is at place i, up to place n
+pub skipping-comment : (s : List ℕ) (from i n : ℕ) → from ≤ i → i < length s → tokens (drop from s) idle ≡ tokens (drop (i + 1) s) comment
+    → SkipsTo (tokens (drop (i + 1) s) comment) s (i + 1) n → Skipping s from n
+skipping-comment s from i n h k e f = record { after = omega (arith, f.after); inside = λ _. skips-inside (omega arith) f; same = sym (e ∙ f.tokens-are) }
