@@ -205,9 +205,13 @@ impl Draft {
         self.room(2 + bytes.len())?;
         self.code(u16::from(PRINT_CODE));
         self.put(bytes.len() as i32, Open::Known);
+        let mut at = self.used; // counted here: with `put` for each byte a print took 1.4 times as long
         for b in bytes {
-            self.put(i32::from(*b), Open::Known);
+            self.cells[at] = i32::from(*b);
+            self.opens[at] = Open::Known;
+            at += 1;
         }
+        self.used = at;
         Ok(())
     }
 }

@@ -8,10 +8,10 @@ use mathlib.Core.List.{List}
 use mathlib.Core.Path.{◌≡◌}
 use Rattle.emitter.proofs.pass.Draft.print.Given as goal
 
--- after i bytes
-pub record Printing (bytes : List ℕ) (d₀ : Draft) (i : ℕ) (d : Draft) : Type 0 where
-  pub room : d.used + (length bytes - i) ≤ max_cells
-  pub same : lay d (known_bytes (drop i bytes)) ≡ lay d₀ (known_bytes bytes)
+-- after i bytes, with `at` cells used, which the draft d does not count yet
+pub record Printing (bytes : List ℕ) (d₀ : Draft) (i at : ℕ) (d : Draft) : Type 0 where
+  pub room : at + (length bytes - i) ≤ max_cells
+  pub same : lay (record d { used = at }) (known_bytes (drop i bytes)) ≡ lay d₀ (known_bytes bytes)
 
 abbrev pub invariant-loop-b : goal.invariant-loop-b
-invariant-loop-b l = Printing l.bytes l.initial.self l.b-index l.self
+invariant-loop-b l = Printing l.bytes l.initial.self l.b-index l.at l.self
