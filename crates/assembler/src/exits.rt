@@ -44,7 +44,7 @@ impl Exits {
 }
 
 // The used cells, from the last one back.
-#[tactic(auto, using(crate::proofs::ExitsFilling::filled_down, crate::proofs::ExitsFilling::filled_none), unfolding(crate::specs::Exits::linked))]
+#[tactic(auto, using(crate::proofs::ExitsFilling::filled_down, crate::proofs::ExitsFilling::filled_none), unfolding(crate::specs::Exits::linked, crate::specs::Exits::settled))]
 pub fn fill(draft: &mut Draft)
     requires { Fillable draft.old }
     ensures { draft.new ≡ linked draft.old }
@@ -55,6 +55,9 @@ pub fn fill(draft: &mut Draft)
     };
     for i in (0..draft.used).rev() {
         let waits = draft.opens[i];
-        exits.settle(&mut draft.cells, i, waits);
+        // Most cells are known.
+        if waits != Open::Known {
+            exits.settle(&mut draft.cells, i, waits);
+        }
     }
 }

