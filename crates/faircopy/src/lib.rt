@@ -29,7 +29,7 @@ impl CopyError {
         ensures { result ≡ error_number self }
     {
         match self {
-            CopyError::BadText(fault) => fault.number(),
+            CopyError::BadText(why) => why.number(),
             CopyError::ShortPaper => SHORT_PAPER,
         }
     }
@@ -111,8 +111,9 @@ fn copy_counter<'a>(text: &'a [u8], out: &mut [u8], at: usize) -> Moved<'a>
     requires { Fits (counter_step text.now) out.old at }
     ensures { Moves (counter_step text.now) text.now at out.old out.new result }
 {
+    let digits = past_zeros(text);
     let after_dollar = write_byte(out, at, b'$');
-    copy_through(past_zeros(text), b'$', out, after_dollar)
+    copy_through(digits, b'$', out, after_dollar)
 }
 
 // The `-` of a constant with these digits, where it is said and the first digit is not 0.
@@ -228,8 +229,8 @@ pub fn copy_into(text: &[u8], paper: &mut [u8], written: &mut usize) -> u32
     ensures { delivers result written.new paper.new ≡ copied paper.old (read text.now) }
 {
     match fair_copy(text, paper) {
-        Ok(count) => {
-            *written = count;
+        Ok(length) => {
+            *written = length;
             0
         }
         Err(error) => {
