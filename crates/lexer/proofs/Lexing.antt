@@ -15,7 +15,7 @@ use Rattle.language.specs.declared.Fault.TheVariants.{StrayMark, BadCounter}
 use Rattle.language.specs.Syntax.{Access, variable, print}
 use Rattle.language.specs.Tokens.{Token, does, counts, faults, Class, class, digit_cell}
 use Rattle.language.specs.Tokens.{Form, counter_form, most_digits, closing_byte, form_fault, constant_form, Mode, idle, comment, after-tick, after-slash, after-access, number, printing}
-use Rattle.lexer.specs.Lexing.{SkipsTo, Skips, Means, Lexes, Takes}
+use Rattle.lexer.specs.Lexing.{SkipsTo, Means, Lexes, Takes}
 use Rattle.lexer.specs.declared.Lexed.{Lexed}
 use Rattle.std.specs.Prelude.{Result, Ok, Err}
 use Rattle.language.specs.Tokens.{unless, first, numeral, numbered, scan_number, slashed, ticked, accessed, printed, commented, scan, finish, tokens}
@@ -179,30 +179,10 @@ takes-from t t' s a b (Ok l) e h q =
     }
 takes-from t t' s a b (Err r) e h q = inr (e ∙ q)
 
--- a token after blanks, where the tokens are those from here
-pub takes-after : (t t' : List Token) (s : List ℕ) (a b : ℕ) (r : Result Lexed Fault) → t ≡ t' → a ≤ b → Takes t' s b r → Takes t s a r
-takes-after t t' s a b (Ok l) e h q =
-    record {
-      means = subst (λ t. Means s l.token t (tokens (drop l.next s) idle)) (sym e) q.means;
-      further = λ n. let k = q.further n in omega arith;
-      inside = q.inside;
-    }
-takes-after t t' s a b (Err r) e h q = elim q [ inl f ↦ inl (e ∙ f) | inr f ↦ inr (e ∙ f) ]
-
 -- the tokens from a byte of a class on
 pub tokens-first : (s : List ℕ) (i : ℕ) → i < length s → (c : Class) → class (get_or s i 0) ≡ c → tokens (drop i s) idle ≡ first c (λ m. tokens (drop (i + 1) s) m)
 unfolding scan
 tokens-first s i h c e = tokens-at s i idle h ∙ ap (λ c. first c (λ m. tokens (drop (i + 1) s) m)) e
-
--- two steps to a place inside the text
-pub inside_both : (s : List ℕ) (a b n : ℕ) → a ≤ b → (a < b → b ≤ length s) → b ≤ n → (b < n → n ≤ length s) → a < n → n ≤ length s
-inside_both s a b n h i k j l = by-ltb b n (λ _. n ≤ length s) j (λ e. let q : b ≤ length s = i (omega arith) in omega arith)
-
--- what is skipped from further on, where the tokens are those from here
-pub skips-from : (t t' : List Token) (s : List ℕ) (a b : ℕ) (r : Result ℕ Fault) → t ≡ t' → a ≤ b → (a < b → b ≤ length s) → Skips t' s b r → Skips t s a r
-skips-from t t' s a b (Ok n) e h i q =
-    record { tokens-are = e ∙ q.tokens-are; after = omega (arith, q.after); inside = λ k. inside_both s a b n h i q.after q.inside k }
-skips-from t t' s a b (Err r) e h i q = e ∙ q
 
 pub skips-inside : {t : List Token} {s : List ℕ} {from n : ℕ} → from ≤ length s → SkipsTo t s from n → n ≤ length s
 skips-inside {s = s} {from = from} {n = n} h q = by-ltb from n (λ _. n ≤ length s) q.inside (λ e. omega arith)
@@ -215,5 +195,7 @@ pub record Skipping (s : List ℕ) (from at : ℕ) : Type 0 where
   pub inside : from < at → at ≤ length s
   pub same : tokens (drop at s) idle ≡ tokens (drop from s) idle
 
-pub skipping-none : (s : List ℕ) (from : ℕ) → Skipping s from from
-skipping-none s from = record { after = omega arith; inside = λ k. absurd (omega arith); same = refl }
+-- a comment whose first byte is at place i, up to place n
+pub skipping-comment : (s : List ℕ) (from i n : ℕ) → from ≤ i → i < length s → tokens (drop from s) idle ≡ tokens (drop (i + 1) s) comment
+    → SkipsTo (tokens (drop (i + 1) s) comment) s (i + 1) n → Skipping s from n
+skipping-comment s from i n h k e f = record { after = omega (arith, f.after); inside = λ _. skips-inside (omega arith) f; same = sym (e ∙ f.tokens-are) }

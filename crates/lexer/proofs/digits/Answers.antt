@@ -15,7 +15,7 @@ use Rattle.lexer.proofs.digits.Goals.{then-not-is_ascii_digit-via-then-not-is_as
 
 pub returns-then-from-i : goal.returns-then-from-i
 returns-then-from-i c = λ f m e r. let l = c.loop-i in record {
-  tokens-are = sym (l.invariant.same f m e r) ∙ number-closed c.args.text.now l.i c.loop-i-test.true f (l.i - c.args.from) l.value (omega arith) (c.if-b-close.true ∙ sym e) (omega arith);
+  tokens-are = sym (l.invariant.same f m e r) ∙ number-closed c.args.text.now l.i c.loop-i-test.true f (l.i - c.args.from) l.value (omega arith) (c.if-b-form.true ∙ sym e) (omega arith);
   below = pow-up l.value (l.i - c.args.from) (most_digits f) (omega (arith, l.invariant.few)) l.invariant.below;
   after = omega arith;
   inside = omega arith;
@@ -28,7 +28,7 @@ returns-then-not-is_ascii_digit c = λ f m e r.
     let n = l.i - c.args.from in
     let value = c.is_ascii_digit.ensures.value in
     let stray : ((get_or s l.i 0 ≡ closing_byte f) × (n ≡ 0)) ⊎ (get_or s l.i 0 ≡ closing_byte f → ⊥) =
-    elim c.else-b-close.either [ inl k ↦ inl (k.0 ∙ sym e, omega (arith, k.1)) | inr k ↦ inr (λ q. k (q ∙ e)) ] in
+    elim c.else-b-form.either [ inl k ↦ inl (k.0 ∙ sym e, omega (arith, k.1)) | inr k ↦ inr (λ q. k (q ∙ e)) ] in
     sym (l.invariant.same f m e r)
     ∙ elim c.then-not-is_ascii_digit.branch [
       | then-not-is_ascii_digit-via-then-not-is_ascii_digit w ↦ number-stray s l.i c.loop-i-test.true f n l.value (omega arith) stray (sym value ∙ w.if-not-is_ascii_digit.true)

@@ -13,4 +13,4 @@ pub record Reading (s : List ℕ) (from most close : ℕ) (fault : Fault) (i v :
   pub same : (f : Form) → most_digits f ≡ most → closing_byte f ≡ close → form_fault f ≡ fault → tokens (drop i s) (number f (i - from) v) ≡ tokens (drop from s) (number f 0 0)
 
 abbrev pub invariant-loop-i : goal.invariant-loop-i
-invariant-loop-i l = Reading l.text l.from l.most l.close l.fault l.i l.value
+invariant-loop-i l = Reading l.text l.from l.form.most l.form.close l.form.fault l.i l.value

@@ -6,15 +6,8 @@ use lib.ListN.{drop, take}
 use native.Mathlib.Omega.{arith}
 use Prim.Native.Nat.{◌+◌, ◌-◌}
 use mathlib.Core.List.{◌∷◌, reverse, reverse-reverse}
-use mathlib.Core.Path.{◌≡◌, sym, ap, ◌∙◌}
+use mathlib.Core.Path.{sym, ap, ◌∙◌}
 use Rattle.lexer.proofs.print.Goals as goal
-
-pub loop-i-init : goal.loop-i-init
-loop-i-init c =
-    let s = c.args.text.now in
-    let f = c.args.from in
-    let e : f - f ≡ 0 = omega arith in
-    ap (λ n. tokens (drop f s) (printing (reverse (take n (drop f s))))) e
 
 pub returns-then-b-eq39 : goal.returns-then-b-eq39
 returns-then-b-eq39 c =

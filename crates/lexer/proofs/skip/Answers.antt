@@ -1,6 +1,6 @@
 -- `skip` meets its contract.
 use Rattle.lexer.proofs.LexingSorts.{the-quote, the-blank}
-use Rattle.lexer.proofs.Lexing.{tokens-first, skips-inside}
+use Rattle.lexer.proofs.Lexing.{tokens-first, skipping-comment}
 use Rattle.lexer.specs.Lexing.{SkipsOver}
 use Rattle.language.specs.Tokens.{first, faults}
 use Rattle.std.proofs.lemmas.Result.{err_from_is_err_and}
@@ -28,12 +28,9 @@ unfolding first
 loop-at-preserved-in-34 c =
     let s = c.args.text.now in
     let l = c.loop-at in
-    let f = c.in_ok-at-in-34.ensures in
-    record {
-      after = omega (arith, f.after, l.invariant.after);
-      inside = λ _. skips-inside (omega arith) f;
-      same = sym f.tokens-are ∙ sym (tokens-first s l.at c.loop-at-test.true _ (the-quote (get_or s l.at 0) c.in-34.is)) ∙ l.invariant.same;
-    }
+    skipping-comment s c.args.from l.at c.in_ok-at-in-34.at l.invariant.after c.loop-at-test.true
+    (sym l.invariant.same ∙ tokens-first s l.at c.loop-at-test.true _ (the-quote (get_or s l.at 0) c.in-34.is))
+    c.in_ok-at-in-34.ensures
 
 pub loop-at-preserved : goal.loop-at-preserved
 unfolding first
