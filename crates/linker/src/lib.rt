@@ -40,13 +40,11 @@ pub fn link(text: &[u8]) -> Result<Table, Fault>
         return Err(Fault::LongText);
     }
     let at = skip(text, 0)?;
-    if text.len() <= at {
-        return Err(Fault::Unfinished);
+    match text.get(at) {
+        None => Err(Fault::Unfinished),
+        Some(b'(') => link_from(text, at + 1),
+        Some(_) => Err(Fault::StrayMark),
     }
-    if text[at] != b'(' {
-        return Err(Fault::StrayMark);
-    }
-    link_from(text, at + 1)
 }
 
 // ── for C ───────────────────────────────────────────────────────────────────────────────────────

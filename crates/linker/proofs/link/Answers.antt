@@ -1,5 +1,5 @@
 -- `link` meets its contract.
-use mathlib.Core.Path.{◌∙◌}
+use mathlib.Core.Path.{sym, ◌∙◌}
 use native.Mathlib.Omega.{arith}
 use Rattle.linker.proofs.LinkedText.{link-long, link-unskipped, link-empty, link-stray, link-inside}
 use Rattle.linker.proofs.link.Goals as goal
@@ -12,16 +12,18 @@ returns-in_err-at c =
     let e = link-unskipped c.args.text.now c.if-text-gt-TEXT.false c.in_err-at.field-0.0 c.in_err-at.ensures.skips in
     grind (arith, e)
 
-pub returns-then-text-at : goal.returns-then-text-at
-returns-then-text-at c = link-empty c.args.text.now c.if-text-gt-TEXT.false c.in_ok-at.at c.in_ok-at.ensures.skips c.if-text-at.true
+pub returns-in-None : goal.returns-in-None
+returns-in-None c = link-empty c.args.text.now c.if-text-gt-TEXT.false c.in_ok-at.at c.in_ok-at.ensures.skips c.in-None.ensures.lookup.3
 
-pub returns-then-text-at-ne40 : goal.returns-then-text-at-ne40
-returns-then-text-at-ne40 c =
-    link-stray c.args.text.now c.if-text-gt-TEXT.false c.in_ok-at.at c.in_ok-at.ensures.skips c.if-text-at.false
-    (omega (arith, c.type_inv.text c.in_ok-at.at)) c.in_ok-at.ensures.settles c.if-text-at-ne40.true
-
-pub returns : goal.returns
-returns c =
+pub returns-in-Some-eq40 : goal.returns-in-Some-eq40
+returns-in-Some-eq40 c =
+    let b = c.in-Some-eq40.ensures.lookup.3 in
     c.link_from.ensures
-    ∙ link-inside c.args.text.now c.if-text-gt-TEXT.false c.in_ok-at.at c.in_ok-at.ensures.skips c.if-text-at.false
-    (omega (arith, c.type_inv.text c.in_ok-at.at)) c.in_ok-at.ensures.settles c.if-text-at-ne40.false
+    ∙ link-inside c.args.text.now c.if-text-gt-TEXT.false c.in_ok-at.at c.in_ok-at.ensures.skips b.0 (omega (arith, c.type_inv.text c.in_ok-at.at))
+    c.in_ok-at.ensures.settles (sym (b.1 0) ∙ c.in-Some-eq40.field-0-test)
+
+pub returns-in-Some : goal.returns-in-Some
+returns-in-Some c =
+    let b = c.in-Some.ensures.lookup.3 in
+    link-stray c.args.text.now c.if-text-gt-TEXT.false c.in_ok-at.at c.in_ok-at.ensures.skips b.0 (omega (arith, c.type_inv.text c.in_ok-at.at))
+    c.in_ok-at.ensures.settles (λ e. c.in-Some.field-0-test.1 (b.1 0 ∙ e))
