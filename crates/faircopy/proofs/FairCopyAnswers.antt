@@ -38,17 +38,14 @@ module _ (s : List ℕ) (t : Table) (link : Ok t ≡ linked (read s)) (n : ℕ) 
   abbrev c : Copies s blank
   c = accepted-text s t link
 
-  abbrev o : List ℕ
-  o = blank
-
   abbrev fc : List ℕ
   fc = fair_copy c.expression
 
-  shorter : length fc ≤ length o
+  shorter : length fc ≤ length blank
   shorter = let k = copy-shorter s c.expression c.reads in omega (arith, c.room)
 
-  all : wrote n o' ≡ wrote (0 + length fc) (paste o 0 fc (length fc))
-  all = f c.expression c.reads ∙ sym (written-room o 0 fc (omega (arith, shorter)))
+  all : wrote n o' ≡ wrote (0 + length fc) (paste blank 0 fc (length fc))
+  all = f c.expression c.reads ∙ sym (written-room blank 0 fc (omega (arith, shorter)))
 
   pub counted : n ≡ length fc
   counted = let k : n ≡ 0 + length fc = ap (λ (x : Written). x.next) all in omega arith
@@ -56,13 +53,13 @@ module _ (s : List ℕ) (t : Table) (link : Ok t ≡ linked (read s)) (n : ℕ) 
   pub little : n ≤ length o'
   little =
       let k = ap (λ (x : Written). length x.buffer) all in
-      omega (arith, counted, shorter, length-paste o 0 fc (length fc) (omega (arith, shorter)) (omega arith))
+      omega (arith, counted, shorter, length-paste blank 0 fc (length fc) (omega (arith, shorter)) (omega arith))
 
   -- they are the copy
   bytes : take n o' ≡ fc
   bytes =
       (λ i. take (all i).next (all i).buffer)
-      ∙ take-paste o 0 fc (length fc) (omega (arith, shorter)) (omega arith)
+      ∙ take-paste blank 0 fc (length fc) (omega (arith, shorter)) (omega arith)
       ∙ take-length fc
 
   pub short-paper : (p : List ℕ) → length p < n → delivers short_paper 0 p ≡ copied p (read s)
