@@ -103,19 +103,6 @@ module _ (z : ℕ) (l₀ o : List ℕ) (at : ℕ) (h : Fits (through_step z l₀
   through-none = record { bytes = []; whole = refl; rest = refl; count = omega arith; buffer = nothing_written o at (omega arith); size = refl }
 
   module _ (l : List ℕ) (n : ℕ) (o' : List ℕ) (q : Through z l₀ o at l n o') where
-    pub through-end : length l < 1 → (m : Moved) → m.rest.now ≡ l → m.at ≡ n → Moves (through_step z l₀) l₀ at o o' m
-    through-end k m e f =
-        let none : l ≡ [] = length-zero l k in
-        record {
-          rest = e ∙ none ∙ ap (λ (x : List ℕ). drop (reach z x) x) (sym none) ∙ q.rest;
-          buffer = ap (λ (x : ℕ). wrote x o') f ∙ q.buffer
-              ∙ ap (written o at) (sym (append-nil q.bytes) ∙ ap (λ (x : List ℕ). q.bytes ++ take (reach z x) x) (sym none) ∙ q.whole);
-        }
-      where
-        length-zero : (x : List ℕ) → length x < 1 → x ≡ []
-        length-zero [] j = refl
-        length-zero (b ∷ x) j = absurd (omega arith)
-
     -- the first byte is copied
     module _ (some : 1 ≤ length l) (r : ℕ) (o'' : List ℕ) (w : wrote r o'' ≡ written o' n (get_or l 0 0 ∷ [])) where
       abbrev one : List ℕ
@@ -174,23 +161,6 @@ zeros-last (b ∷ []) h = go (eqb b (digit_byte 0))
     go true = refl
     go false = refl
 zeros-last (b ∷ d ∷ l) h = absurd (omega arith)
-
-pub zeros-other : (l : List ℕ) → (get_or l 0 0 ≡ digit_byte 0 → ⊥) → zeros l ≡ 0
-zeros-other [] n = refl
-zeros-other (b ∷ l) n = rw (ne_eqb b (digit_byte 0) n)
-
-pub zeros-lone : (l : List ℕ) → 2 ≤ length l → get_or l 0 0 ≡ digit_byte 0 → get_or l 1 0 < digit_byte 0 → zeros l ≡ 0
-zeros-lone [] h z n = absurd (omega arith)
-zeros-lone (b ∷ []) h z n = absurd (omega arith)
-zeros-lone (b ∷ d ∷ l) h z n = rw (eq-eqb b (digit_byte 0) z, lt-leb (digit_byte 0) d n)
-
-pub zeros-more : (l : List ℕ) → 2 ≤ length l → get_or l 0 0 ≡ digit_byte 0 → digit_byte 0 ≤ get_or l 1 0
-    → drop (zeros (drop 1 l)) (drop 1 l) ≡ drop (zeros l) l
-zeros-more [] h z n = absurd (omega arith)
-zeros-more (b ∷ []) h z n = absurd (omega arith)
-zeros-more (b ∷ d ∷ l) h z n =
-    let e : zeros (b ∷ d ∷ l) ≡ suc (zeros (d ∷ l)) = rw (eq-eqb b (digit_byte 0) z, le-leb (digit_byte 0) d n) in
-    sym (ap (λ (k : ℕ). drop k (b ∷ d ∷ l)) e)
 
 -- ── the sign ────────────────────────────────────────────────────────────────────────────────────
 
