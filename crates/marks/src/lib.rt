@@ -43,6 +43,7 @@ fn format_of(b: u8) -> Format
 }
 
 // The cell after the mark of that format at the due cell.
+#[tactic(auto, unfolding(crate::specs::Formats::mark_end))]
 fn mark_end(cells: &[i32; STORE_CELLS], code: Code, at: usize, format: Format) -> Option<usize>
     requires { Inside code at }
     ensures { result ≡ mark_end cells.now code at format }
@@ -106,12 +107,7 @@ fn tick(calls: &mut [u8; CALLS], from: usize, due: Due)
 
 // Reads the table at `code`. The answer is whether no cell that is met is damaged; the letters that it calls up to there are ticked in the row of the
 // calls that starts at `from`.
-pub fn read(
-    cells: &[i32; STORE_CELLS],
-    code: Code,
-    calls: &mut [u8; CALLS],
-    from: usize,
-) -> bool
+pub fn read(cells: &[i32; STORE_CELLS], code: Code, calls: &mut [u8; CALLS], from: usize) -> bool
     requires { Standing code from }
     ensures { Reads (table_in cells.now code) calls.old from result calls.new }
 {
