@@ -84,13 +84,7 @@ fn byte(x: i32) -> Due
 fn holds_print_byte(x: i32) -> bool
     ensures { result ≡ holds_print_byte x }
 {
-    if x < 32 {
-        return false;
-    }
-    if 126 < x {
-        return false;
-    }
-    x != 39
+    matches!(x, 32..=126) && x != i32::from(b'\'')
 }
 
 // Whether n cells from an index on are bytes of a print.
