@@ -28,6 +28,7 @@ enum Format {
 }
 
 // The format of the mark whose code is this byte.
+#[tactic(auto, unfolding(crate::specs::Formats::format_of, language::specs::Machine::kind))]
 fn format_of(b: u8) -> Format
     ensures { result ≡ format_of b }
 {
