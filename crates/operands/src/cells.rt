@@ -2,7 +2,7 @@
 ghost use Rattle.std.specs.Prelude.{◌≡◌, ◌<◌, ◌+◌, ◌≤◌};
 ghost use Rattle.language.specs.Limits.{max_cells, store_cells};
 ghost use Rattle.language.specs.Machine.{cell};
-ghost use Rattle.operands.specs.Operands.{byte_of, byte_at, target_of, second_at, exit_of, bounded_of, digit_at, negated_of, counter_at, print_at};
+ghost use Rattle.operands.specs.Operands.{byte_of, byte_at, target_of, second_cell, second_at, exit_of, bounded_of, digit_at, negated_of, counter_at, print_at};
 ghost use Rattle.operands.specs.Operands.{table_in, holds_print_byte, printable};
 ghost use Rattle.operands.specs.Ready.{Placed, Inside};
 
@@ -38,6 +38,7 @@ pub struct Counter {
 }
 
 // A number of 1 to `most`, which its cell holds negated: a mark's byte, a counter's number.
+#[tactic(auto, unfolding(crate::specs::Operands::negated_of))]
 fn negated(x: i32, most: u16) -> Option<usize>
     ensures { result ≡ negated_of most x }
 {
@@ -53,6 +54,7 @@ fn negated(x: i32, most: u16) -> Option<usize>
 }
 
 // A number of `least` to `most`: a cell's number, a variable's digit, a counter's order, a print's length.
+#[tactic(auto, unfolding(crate::specs::Operands::bounded_of))]
 fn bounded(x: i32, least: usize, most: usize) -> Option<usize>
     ensures { result ≡ bounded_of least most x }
 {
@@ -60,14 +62,11 @@ fn bounded(x: i32, least: usize, most: usize) -> Option<usize>
         return None;
     }
     let n = x as usize;
-    if n < least || most < n {
-        None
-    } else {
-        Some(n)
-    }
+    if n < least || most < n { None } else { Some(n) }
 }
 
 // A mark's byte, a transfer, or neither.
+#[tactic(auto, unfolding(crate::specs::Operands::byte_of, crate::specs::Operands::negated_of))]
 fn byte(x: i32) -> Due
     ensures { result ≡ byte_of x }
 {
@@ -81,19 +80,15 @@ fn byte(x: i32) -> Due
 }
 
 // Whether a cell holds a byte of a print, 32 to 126 other than `'`.
+#[tactic(auto, unfolding(crate::specs::Operands::holds_print_byte))]
 fn holds_print_byte(x: i32) -> bool
     ensures { result ≡ holds_print_byte x }
 {
-    if x < 32 {
-        return false;
-    }
-    if 126 < x {
-        return false;
-    }
-    x != 39
+    matches!(x, 32..=126) && x != i32::from(b'\'')
 }
 
 // Whether n cells from an index on are bytes of a print.
+#[tactic(auto, unfolding(crate::specs::Operands::printable))]
 fn prints(cells: &[i32; STORE_CELLS], from: usize, n: usize) -> bool
     requires { from + n ≤ store_cells }
     ensures { result ≡ printable cells.now from n }
@@ -118,6 +113,7 @@ impl Code {
     }
 
     // What the due cell holds; neither a mark nor a transfer for the last two cells, and for what is outside 2 to used.
+    #[tactic(auto, unfolding(crate::specs::Operands::byte_at))]
     pub fn byte_at(self, cells: &[i32; STORE_CELLS], at: usize) -> Due
         requires { Placed self }
         ensures { result ≡ byte_at (table_in cells.now self) at }
@@ -137,7 +133,21 @@ impl Code {
         bounded(x, Table::CODE_START, self.end)
     }
 
-    // Of a mark of two cells, the number of `least` to `most` in the second.
+    // The second cell of a mark of two cells.
+    #[tactic(auto, unfolding(crate::specs::Operands::second_cell))]
+    pub fn second_cell(self, cells: &[i32; STORE_CELLS], at: usize) -> Option<i32>
+        requires { Inside self at }
+        ensures { result ≡ second_cell (table_in cells.now self) at }
+    {
+        if self.end < at + 3 {
+            None
+        } else {
+            Some(self.cell(cells, at + 1))
+        }
+    }
+
+    // The number of `least` to `most` that it holds.
+    #[tactic(auto, unfolding(crate::specs::Operands::second_at))]
     fn second_at(
         self,
         cells: &[i32; STORE_CELLS],
@@ -148,10 +158,8 @@ impl Code {
         requires { Inside self at }
         ensures { result ≡ second_at least most (table_in cells.now self) at }
     {
-        if self.end < at + 3 {
-            return None;
-        }
-        bounded(self.cell(cells, at + 1), least, most)
+        let x = self.second_cell(cells, at)?;
+        bounded(x, least, most)
     }
 
     // The false exit of a mark of two cells.
@@ -171,6 +179,7 @@ impl Code {
     }
 
     // A counter's number, order and false exit.
+    #[tactic(auto, unfolding(crate::specs::Operands::counter_at))]
     pub fn counter_at(self, cells: &[i32; STORE_CELLS], at: usize) -> Option<Counter>
         requires { Inside self at }
         ensures { result ≡ counter_at (table_in cells.now self) at }
@@ -185,6 +194,7 @@ impl Code {
     }
 
     // The length of a print, whose bytes each have their form. The first of them stands at the index `base + at + 1`.
+    #[tactic(auto, unfolding(crate::specs::Operands::print_at))]
     pub fn print_at(self, cells: &[i32; STORE_CELLS], at: usize) -> Option<usize>
         requires { Inside self at }
         ensures { result ≡ print_at cells.now self at }
