@@ -41,9 +41,6 @@ returns-then-m-eq0 c = λ h.
       eq-eqb c.args.m.left 0 (omega arith),
     )
 
-pub leave-requires-then-x-eq0 : goal.leave-requires-then-x-eq0
-leave-requires-then-x-eq0 c = rw c.go.ensures (record { depth = c.requires.depth })
-
 pub returns-then-x-eq0 : goal.returns-then-x-eq0
 returns-then-x-eq0 c = λ h.
     let due = holds 0 c.cell-x.ensures (record { sfits = c.cell-x.type_inv }) c.if-x-eq0.true in

@@ -15,9 +15,9 @@ returns-in_default c = λ h. rw (c.stop.ensures, count-read, ← c.counter_at.en
 pub returns-then-m-eq0 : goal.returns-then-m-eq0
 returns-then-m-eq0 c = λ h. rw (c.stop-then-m-eq0.ensures, count-read, ← c.counter_at.ensures, c.in-Some.is, eq-eqb _ _ c.if-m-eq0.true)
 
-pub returns-then-c-limit : goal.returns-then-c-limit
+pub returns-then-counts-i : goal.returns-then-counts-i
 unfolding pick
-returns-then-c-limit c = λ h.
+returns-then-counts-i c = λ h.
     let a = c.args in
     let k = counted _ _ _ (sym c.counter_at.ensures ∙ c.in-Some.is) in
     rw (
@@ -26,7 +26,7 @@ returns-then-c-limit c = λ h.
       ← c.counter_at.ensures,
       c.in-Some.is,
       ne_eqb _ _ c.if-m-eq0.false,
-      count-true (state_of (counting a.m a.counts.now h)) a.m.letter c.in-Some.field-0.limit c.in-Some.field-0.order k.some c.if-c-limit.true,
+      count-true (state_of (counting a.m a.counts.now h)) a.m.letter c.in-Some.field-0.limit c.in-Some.field-0.order k.some c.if-counts-i.true,
     )
 
 pub returns-then-exit-gt-CELLS : goal.returns-then-exit-gt-CELLS
@@ -43,5 +43,5 @@ returns c = λ h.
       ← c.counter_at.ensures,
       c.in-Some.is,
       ne_eqb _ _ c.if-m-eq0.false,
-      count-false (state_of (counting a.m a.counts.now h)) a.m.letter c.in-Some.field-0.limit c.in-Some.field-0.order k.some c.if-c-limit.false,
+      count-false (state_of (counting a.m a.counts.now h)) a.m.letter c.in-Some.field-0.limit c.in-Some.field-0.order k.some c.if-counts-i.false,
     )
