@@ -9,7 +9,7 @@ use operands::Machine;
 use operands::cells::{Code, Counter};
 
 // A counter: "while its count of trues is below n it is true and the count rises by one, else it is false and the count is 0".
-#[tactic(auto, using(crate::proofs::Counted::counted))]
+#[tactic(auto, using(crate::proofs::Effects::counted))]
 pub fn counter(
     m: Machine,
     cells: &[i32; STORE_CELLS],

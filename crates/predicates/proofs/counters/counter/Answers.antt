@@ -4,8 +4,8 @@ use native.Mathlib.Omega.{arith}
 use borrow.Author.Tests.{eq-eqb, ne_eqb}
 use Rattle.language.specs.Machine.{pick}
 use Rattle.operands.specs.Held.{state_of, counting}
+use Rattle.operands.proofs.Operands.{counter-bounds}
 use Rattle.operands.proofs.OperandsDecoding.{count-read}
-use Rattle.predicates.proofs.Counted.{counted}
 use Rattle.predicates.proofs.Effects.{count-true, count-false}
 use Rattle.predicates.proofs.counters.counter.Goals as goal
 
@@ -19,7 +19,7 @@ pub returns-then-counts-i : goal.returns-then-counts-i
 unfolding pick
 returns-then-counts-i c = λ h.
     let a = c.args in
-    let k = counted _ _ _ (sym c.counter_at.ensures ∙ c.in-Some.is) in
+    let k = counter-bounds _ _ _ (sym c.counter_at.ensures ∙ c.in-Some.is) in
     rw (
       c.go.ensures,
       count-read,
@@ -30,13 +30,13 @@ returns-then-counts-i c = λ h.
     )
 
 pub returns-then-exit-gt-CELLS : goal.returns-then-exit-gt-CELLS
-returns-then-exit-gt-CELLS c = λ h. absurd (omega (arith, counted _ _ _ (sym c.counter_at.ensures ∙ c.in-Some.is), c.if-exit-gt-CELLS.true, c.requires.inside.placed.used))
+returns-then-exit-gt-CELLS c = λ h. absurd (omega (arith, counter-bounds _ _ _ (sym c.counter_at.ensures ∙ c.in-Some.is), c.if-exit-gt-CELLS.true, c.requires.inside.placed.used))
 
 pub returns : goal.returns
 unfolding pick
 returns c = λ h.
     let a = c.args in
-    let k = counted _ _ _ (sym c.counter_at.ensures ∙ c.in-Some.is) in
+    let k = counter-bounds _ _ _ (sym c.counter_at.ensures ∙ c.in-Some.is) in
     rw (
       c.go-2.ensures,
       count-read,
