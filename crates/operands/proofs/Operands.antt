@@ -1,180 +1,190 @@
 -- What the tests on a cell, a signed number, say of the definitions that go by its condition; and the bytes of a print.
-use mathlib.Core.Path.{◌≡◌, refl, sym, ap, ◌∙◌}
-use mathlib.Core.Bool.{Bool, true, false, cond, false≢true}
+use mathlib.Core.Path.{◌≡◌, refl, sym, ap, ◌∙◌, subst}
+use mathlib.Core.Bool.{Bool, true, false, cond, not, false≢true}
 use mathlib.Core.List.{List}
+use mathlib.Core.Logic.{◌⊎◌, inl, inr}
 use Prim.Native.Nat.{ℕ, zero, suc, ◌+◌, ◌-◌, ◌<◌, ◌≤◌}
 use native.Mathlib.Omega.{arith}
-use lib.Dec.{T, ltb}
-use lib.IntN.{ℤ, pos, negsuc, neg_ℤ, nat_abs, ◌-ℤ◌}
+use lib.Dec.{T, eqb}
+use lib.IntN.{ℤ, pos, negsuc, nat_abs}
 use lib.ListN.{length, get_or}
-use lib.Signed.{lt_z, non_neg}
-use mir.Syntax.{w8, w32, w64}
-use mir.Val.{SFits, Fits}
-use borrow.Author.Tests.{lt-ltb, le-ltb, ltb-true, ltb-false, le-leb, lt-leb, eq-eqb, ne_eqb}
+use lib.Signed.{lt_z, le_z, non_neg}
+use mir.Syntax.{w32, w64}
+use mir.Val.{SFits, Fits, to_z, of_z}
+use borrow.Author.Tests.{lt-ltb, le-ltb, ltb-true, ltb-false, leb-false, ne_eqb, eqb-true, eqb-false}
+use Rattle.std.specs.Prelude.{Some, None, is_some, unwrap_or, option_map}
 use Rattle.language.specs.declared.Table.{Table}
+use Rattle.language.specs.Between.{between}
 use Rattle.language.specs.Machine.{cell}
+use Rattle.language.specs.Layout.{code_start}
 use Rattle.language.specs.Syntax.{constant_code}
-use Rattle.operands.specs.Operands.{transfer_byte, target_of, exit_of, bounded_of, negated_of, byte_of, print_of, prints_from, printable}
+use Rattle.operands.specs.declared.cells.Due.TheVariants.{Mark, Transfer, End}
+use Rattle.operands.specs.Operands.{bounded_of, exit_of, second_at, negated_of, byte_of, byte_at, holds_print_byte, prints_from, printable}
+use Rattle.language.proofs.Between.{between-true, between-low, between-high, between-bounds}
 use Rattle.language.proofs.Tests.{by-ltb}
 
 wrong : {X : Type 0} → true ≡ false → X
 wrong e = absurd (false≢true (sym e))
+
+-- two readings of the same number
+pub some-same : {a b : ℕ} → Some a ≡ Some b → a ≡ b
+some-same e = ap (λ o. unwrap_or o 0) e
+
+-- no reading is a number
+pub none-some : {X : Type 0} {a : ℕ} → None ≡ Some a → X
+none-some e = absurd (false≢true (ap (λ o. is_some o) e))
 
 -- x as an unsigned number
 pub unsigned : (x : ℤ) (k : ℕ) → SFits w32 x → lt_z x (pos k) ≡ false → T (non_neg x) × Fits w64 (nat_abs x)
 unsigned (pos n) k f e = (tt, let h = f.sfits in record { fits = omega arith })
 unsigned (negsuc n) k f e = wrong e
 
--- below the code
-pub target-low : (x : ℤ) (u : ℕ) → lt_z x (pos 2) ≡ true → 0 ≡ target_of x u
-unfolding target_of
-target-low (pos n) u e = simp e
-target-low (negsuc n) u e = refl
-
--- after the used cells
-pub target-high : (x : ℤ) (u : ℕ) → lt_z x (pos 2) ≡ false → u < nat_abs x → 0 ≡ target_of x u
-unfolding target_of
-target-high (pos n) u e h = simp (e, lt-ltb u n h)
-target-high (negsuc n) u e h = refl
-
--- a cell of the code
-pub target-in : (x : ℤ) (u : ℕ) → lt_z x (pos 2) ≡ false → nat_abs x ≤ u → nat_abs x ≡ target_of x u
-unfolding target_of
-target-in (pos n) u e h = simp (e, le-ltb u n h)
-target-in (negsuc n) u e h = wrong e
-
--- no target is after the used cells
-pub target-le : (x : ℤ) (u : ℕ) → target_of x u ≤ u
-unfolding target_of
-target-le (pos n) u =
-    by-ltb n 2 (λ t. cond t 0 (cond (ltb u n) 0 n) ≤ u) (λ h. omega arith) (λ h. by-ltb u n (λ t. cond t 0 n ≤ u) (λ k. omega arith) (λ k. k))
-target-le (negsuc n) u = omega arith
-
--- nor is a false exit
-pub exit-le : (t : Table) (q : ℕ) → exit_of t q ≤ t.used
-unfolding exit_of
-exit-le t q = by-ltb t.used (q + 3) (λ b. cond b 0 (target_of (cell t (suc q)) t.used) ≤ t.used) (λ h. omega arith) (λ h. target-le (cell t (suc q)) t.used)
+-- ── a number within bounds ──────────────────────────────────────────────────────────────────────
 
 -- a negative number
-pub bounded-low : (m d : ℕ) (x : ℤ) → lt_z x (pos 0) ≡ true → d ≡ bounded_of m d x
+pub bounded-negative : (l m : ℕ) (x : ℤ) → lt_z x (pos 0) ≡ true → None ≡ bounded_of l m x
 unfolding bounded_of
-bounded-low m d (pos n) e = let h = ltb-true n 0 e in absurd (omega arith)
-bounded-low m d (negsuc n) e = refl
+bounded-negative l m (pos n) e = let h = ltb-true n 0 e in absurd (omega arith)
+bounded-negative l m (negsuc n) e = refl
 
--- a number above the bound
-pub bounded-high : (m d : ℕ) (x : ℤ) → m < nat_abs x → lt_z x (pos 0) ≡ false → d ≡ bounded_of m d x
+-- a number outside the bounds
+pub bounded-out : (l m : ℕ) (x : ℤ) → (nat_abs x < l) ⊎ ((l ≤ nat_abs x) × (m < nat_abs x)) → None ≡ bounded_of l m x
 unfolding bounded_of
-bounded-high m d (pos n) h e = simp (lt-ltb m n h)
-bounded-high m d (negsuc n) h e = refl
+bounded-out l m (pos n) (inl h) = rw (between-low l m n h)
+bounded-out l m (pos n) (inr h) = rw (between-high l m n h.1)
+bounded-out l m (negsuc n) h = refl
 
--- a number within the bound
-pub bounded-in : (m d : ℕ) (x : ℤ) → nat_abs x ≤ m → lt_z x (pos 0) ≡ false → nat_abs x ≡ bounded_of m d x
+-- a number within the bounds
+pub bounded-in : (l m : ℕ) (x : ℤ) → lt_z x (pos 0) ≡ false → l ≤ nat_abs x → nat_abs x ≤ m → Some (nat_abs x) ≡ bounded_of l m x
 unfolding bounded_of
-bounded-in m d (pos n) h e = simp (le-ltb m n h)
-bounded-in m d (negsuc n) h e = wrong e
+bounded-in l m (pos n) e h k = rw (between-true l m n h k)
+bounded-in l m (negsuc n) e h k = wrong e
 
--- a number above 0
-pub negated-high : (m : ℕ) (x : ℤ) → lt_z (pos 0) x ≡ true → 0 ≡ negated_of m x
+-- what is read lies within the bounds
+pub bounded-bounds : (l m n : ℕ) (x : ℤ) → bounded_of l m x ≡ Some n → (l ≤ n) × (n ≤ m)
+unfolding bounded_of
+bounded-bounds l m n (pos k) e = go (between l m k) refl e
+  where
+    go : (u : Bool) → between l m k ≡ u → cond u (Some k) None ≡ Some n → (l ≤ n) × (n ≤ m)
+    go true b i = subst (λ (x : ℕ). (l ≤ x) × (x ≤ m)) (some-same i) (between-bounds l m k b)
+    go false b i = none-some i
+bounded-bounds l m n (negsuc k) e = none-some e
+
+-- of a mark of two cells too
+pub second-bounds : (l m n : ℕ) (t : Table) (q : ℕ) → second_at l m t q ≡ Some n → (l ≤ n) × (n ≤ m)
+unfolding second_at
+second-bounds l m n t q e =
+    by-ltb t.used (q + 3) (λ u. cond u None (bounded_of l m (cell t (q + 1))) ≡ Some n → (l ≤ n) × (n ≤ m)) (λ h i. none-some i)
+    (λ h i. bounded-bounds l m n (cell t (q + 1)) i) e
+
+-- a false exit is at most the used cells
+pub exit-le : (t : Table) (q f : ℕ) → exit_of t q ≡ Some f → f ≤ t.used
+exit-le t q f e = (second-bounds code_start t.used f t q e).1
+
+-- ── a number that is held negated ───────────────────────────────────────────────────────────────
+
+-- a number from 0 on
+pub negated-high : (m : ℕ) (x : ℤ) → le_z (pos 0) x ≡ true → None ≡ negated_of m x
 unfolding negated_of
 negated-high m (pos n) e = refl
 negated-high m (negsuc n) e = absurd (false≢true e)
 
 -- a number below the lowest
-pub negated-low : (m : ℕ) (x : ℤ) → lt_z x (neg_ℤ (pos m)) ≡ true → 0 ≡ negated_of m x
+pub negated-low : (m : ℕ) (x : ℤ) → m < nat_abs x → None ≡ negated_of m x
 unfolding negated_of
-negated-low m (pos n) e = refl
-negated-low zero (negsuc n) e = rw (le-ltb n 0 (omega arith))
-negated-low (suc m) (negsuc n) e = let h = ltb-true m n e in rw (le-ltb n (suc m) (omega arith))
+negated-low m (pos n) h = refl
+negated-low m (negsuc n) h = rw (le-ltb n m (omega arith))
 
 -- any other, negated
-pub negated-in : (m : ℕ) (x : ℤ) → lt_z (pos 0) x ≡ false → lt_z x (neg_ℤ (pos m)) ≡ false
-    → (T (non_neg (pos 0 -ℤ x)) × (nat_abs (pos 0 -ℤ x) ≤ m)) × (nat_abs (pos 0 -ℤ x) ≡ negated_of m x)
+pub negated-in : (m : ℕ) (x : ℤ) → le_z (pos 0) x ≡ false → nat_abs x ≤ m → Some (nat_abs x) ≡ negated_of m x
 unfolding negated_of
-negated-in m (pos zero) e g = ((tt, omega arith), refl)
-negated-in m (pos (suc n)) e g = let h = ltb-false 0 (suc n) e in absurd (omega arith)
-negated-in zero (negsuc n) e g = wrong g
-negated-in (suc m) (negsuc n) e g =
-    let h = ltb-false m n g in
-    ((tt, omega arith), rw (lt-ltb n (suc m) (omega arith)) (omega arith))
+negated-in m (pos n) e h = let k = leb-false 0 n e in absurd (omega arith)
+negated-in m (negsuc n) e h = rw (lt-ltb n m (omega arith))
 
--- no more than m
-pub negated-le : (m : ℕ) (x : ℤ) → negated_of m x ≤ m
+-- what is read is no more than m
+pub negated-le : (m n : ℕ) (x : ℤ) → negated_of m x ≡ Some n → n ≤ m
 unfolding negated_of
-negated-le m (pos n) = omega arith
-negated-le m (negsuc n) = by-ltb n m (λ b. cond b (suc n) 0 ≤ m) (λ h. omega arith) (λ h. omega arith)
+negated-le m n (pos k) e = none-some e
+negated-le m n (negsuc k) e =
+    by-ltb k m (λ u. cond u (Some (suc k)) None ≡ Some n → n ≤ m) (λ h i. let j : suc k ≡ n = some-same i in omega arith) (λ h i. none-some i) e
 
-at_most : (m d : ℕ) (t : Bool) (n : ℕ) → m ≤ d → ltb m n ≡ t → cond t d n ≤ d
-at_most m d true n h e = omega arith
-at_most m d false n h e = omega (arith, ltb-false m n e)
-
--- the number is at most the one that stands for damage, where that is beyond the bound
-pub bounded-le : (m d : ℕ) (x : ℤ) → m ≤ d → bounded_of m d x ≤ d
-unfolding bounded_of
-bounded-le m d (pos n) h = at_most m d (ltb m n) n h refl
-bounded-le m d (negsuc n) h = omega arith
+-- ── a byte ──────────────────────────────────────────────────────────────────────────────────────
 
 -- a cell above 0 is a transfer
-pub byte_high : (x : ℤ) → lt_z (pos 0) x ≡ true → transfer_byte ≡ byte_of x
+pub byte_high : (x : ℤ) → lt_z (pos 0) x ≡ true → Transfer ≡ byte_of x
 unfolding byte_of
 byte_high (pos zero) e = absurd (false≢true e)
 byte_high (pos (suc n)) e = refl
 byte_high (negsuc n) e = absurd (false≢true e)
 
--- any other holds a mark's byte negated, or none
-pub byte-negated : (x : ℤ) → lt_z (pos 0) x ≡ false → negated_of constant_code x ≡ byte_of x
+-- any other holds a mark's byte negated
+pub byte-negated : (x : ℤ) (b : ℕ) → negated_of constant_code x ≡ Some b → Mark b ≡ byte_of x
 unfolding byte_of
-byte-negated (pos zero) e = refl
-byte-negated (pos (suc n)) e = let h = ltb-false 0 (suc n) e in absurd (omega arith)
-byte-negated (negsuc n) e = refl
+byte-negated (pos n) b e = none-some e
+byte-negated (negsuc n) b e = rw e
+
+-- or none
+pub byte-none : (x : ℤ) → lt_z (pos 0) x ≡ false → negated_of constant_code x ≡ None → End ≡ byte_of x
+unfolding byte_of
+byte-none (pos zero) e i = refl
+byte-none (pos (suc n)) e i = let h = ltb-false 0 (suc n) e in absurd (omega arith)
+byte-none (negsuc n) e i = rw i
+
+-- a cell outside the code, or one of the last two
+pub byte-outside : (t : Table) (q : ℕ) → (q < code_start) ⊎ ((code_start ≤ q) × (t.used - 2 < q)) → End ≡ byte_at t q
+unfolding byte_at
+byte-outside t q (inl h) = rw (between-low code_start (t.used - 2) q h)
+byte-outside t q (inr h) = rw (between-high code_start (t.used - 2) q h.1)
 
 -- ── a byte says what the cell is ────────────────────────────────────────────────────────────────
 
+-- the cell z holds the byte b negated
+pub record Marked (z : ℤ) (b : ℕ) : Type 0 where
+  pub n : ℕ
+  pub cell : z ≡ negsuc n
+  pub byte : b ≡ suc n
+
 -- a mark's byte
-pub byte-mark : (x : ℤ) (n : ℕ) → (suc n ≡ transfer_byte → ⊥) → byte_of x ≡ suc n → x ≡ negsuc n
+pub byte-mark : (x : ℤ) (b : ℕ) → byte_of x ≡ Mark b → Marked x b
 unfolding byte_of
-byte-mark (pos zero) n h e = absurd (omega arith)
-byte-mark (pos (suc k)) n h e = absurd (h (sym e))
-byte-mark (negsuc k) n h e =
-    by-ltb k constant_code (λ u. cond u (suc k) 0 ≡ suc n → negsuc k ≡ negsuc n) (λ l z. let q : k ≡ n = omega arith in ap negsuc q)
-    (λ l z. absurd (omega arith)) e
+byte-mark (pos zero) b e = absurd (cc)
+byte-mark (pos (suc k)) b e = absurd (cc)
+byte-mark (negsuc k) b e =
+    by-ltb k constant_code (λ u. unwrap_or (option_map Mark (cond u (Some (suc k)) None)) End ≡ Mark b → Marked (negsuc k) b)
+    (λ h i. let j : suc k ≡ b = cc in record { n = k; cell = refl; byte = sym j })
+    (λ h i. absurd cc) e
 
 -- the byte of a transfer
-pub byte-transfer : (x : ℤ) → byte_of x ≡ transfer_byte → x ≡ pos (nat_abs x)
+pub byte-transfer : (x : ℤ) → byte_of x ≡ Transfer → x ≡ pos (nat_abs x)
 unfolding byte_of
 byte-transfer (pos n) e = refl
 byte-transfer (negsuc k) e =
-    by-ltb k constant_code (λ u. cond u (suc k) 0 ≡ transfer_byte → negsuc k ≡ pos (suc k)) (λ l z. absurd (omega arith)) (λ l z. absurd (omega arith)) e
+    by-ltb k constant_code (λ u. unwrap_or (option_map Mark (cond u (Some (suc k)) None)) End ≡ Transfer → negsuc k ≡ pos (suc k)) (λ h i. absurd cc) (λ h i. absurd cc) e
 
 -- ── the bytes of a print ────────────────────────────────────────────────────────────────────────
 
 -- below the blank
-pub print-low : (x : ℤ) → lt_z x (pos 32) ≡ true → 0 ≡ print_of x
-unfolding print_of
-print-low (pos n) e = let h = ltb-true n 32 e in rw (ne_eqb n 39 (λ z. omega arith), lt-leb 32 n h)
+pub print-low : (x : ℤ) → lt_z x (pos 32) ≡ true → false ≡ holds_print_byte x
+unfolding holds_print_byte
+print-low (pos n) e = let h = ltb-true n 32 e in rw (ne_eqb n 39 (λ z. omega arith), between-low 32 126 n h)
 print-low (negsuc n) e = refl
 
 -- above the last byte
-pub print-high : (x : ℤ) → lt_z (pos 126) x ≡ true → 0 ≡ print_of x
-unfolding print_of
-print-high (pos n) e = let h = ltb-true 126 n e in rw (ne_eqb n 39 (λ z. omega arith), le-leb 32 n (omega arith), lt-leb n 126 h)
+pub print-high : (x : ℤ) → lt_z (pos 126) x ≡ true → false ≡ holds_print_byte x
+unfolding holds_print_byte
+print-high (pos n) e = let h = ltb-true 126 n e in rw (ne_eqb n 39 (λ z. omega arith), between-high 32 126 n h)
 print-high (negsuc n) e = refl
 
--- the byte of `'`
-pub print-quote : (x : ℤ) → x ≡ pos 39 → 0 ≡ print_of x
-unfolding print_of
-print-quote x e = rw e
-
--- a byte of a print
-pub print-in : (x : ℤ) → lt_z x (pos 32) ≡ false → lt_z (pos 126) x ≡ false → (x ≡ pos 39 → ⊥)
-    → (T (non_neg x) × Fits w8 (nat_abs x)) × (nat_abs x ≡ print_of x)
-unfolding print_of
-print-in (pos n) e f q =
-    let h = ltb-false n 32 e in
-    let k = ltb-false 126 n f in
-    ((tt, record { fits = omega arith }), rw (ne_eqb n 39 (λ z. q (ap pos z)), le-leb 32 n h, le-leb n 126 k))
-print-in (negsuc n) e f q = wrong e
-
--- ── prints ──────────────────────────────────────────────────────────────────────────────────────
+-- any of them but `'`
+pub print-in : (x : ℤ) → to_z w32 (of_z w32 x) ≡ x → lt_z x (pos 32) ≡ false → lt_z (pos 126) x ≡ false → not (eqb (of_z w32 x) 39) ≡ holds_print_byte x
+unfolding holds_print_byte
+print-in (negsuc n) b e f = wrong e
+print-in (pos n) b e f = go (eqb (of_z w32 (pos n)) 39) refl
+  where
+    go : (u : Bool) → eqb (of_z w32 (pos n)) 39 ≡ u → not u ≡ cond (eqb n 39) false (between 32 126 n)
+    go true i = let q : pos n ≡ pos 39 = sym b ∙ ap (to_z w32) (eqb-true (of_z w32 (pos n)) 39 i) in rw (ap nat_abs q)
+    go false i =
+        rw (ne_eqb n 39 (λ z. eqb-false (of_z w32 (pos n)) 39 i (ap (λ (m : ℕ). of_z w32 (pos m)) z)), between-true 32 126 n (ltb-false n 32 e) (ltb-false 126 n f))
 
 -- no bytes
 pub printable-none : (c : List ℤ) (i n : ℕ) → n ≡ 0 → printable c i n ≡ true
@@ -182,18 +192,19 @@ unfolding printable
 printable-none c i n e = rw e
 
 -- the first breaks its form
-pub printable-break : (c : List ℤ) (i n : ℕ) → 0 < n → print_of (get_or c i (pos 0)) ≡ 0 → printable c i n ≡ false
+pub printable-break : (c : List ℤ) (i n : ℕ) → 0 < n → holds_print_byte (get_or c i (pos 0)) ≡ false → printable c i n ≡ false
 unfolding printable
 printable-break c i zero h e = absurd (omega arith)
-printable-break c i (suc n) h e = rw (eq-eqb (print_of (get_or c i (pos 0))) 0 e)
+printable-break c i (suc n) h e = rw e
 
 -- the first has its form
-pub printable-step : (c : List ℤ) (i n : ℕ) → 0 < n → (print_of (get_or c i (pos 0)) ≡ 0 → ⊥) → printable c i n ≡ printable c (suc i) (n - 1)
+pub printable-step : (c : List ℤ) (i n : ℕ) → 0 < n → holds_print_byte (get_or c i (pos 0)) ≡ true → printable c i n ≡ printable c (i + 1) (n - 1)
 unfolding printable
 printable-step c i zero h e = absurd (omega arith)
 printable-step c i (suc n) h e =
     let k : suc n - 1 ≡ n = omega arith in
-    rw (ne_eqb (print_of (get_or c i (pos 0))) 0 e, k)
+    let j : i + 1 ≡ suc i = omega arith in
+    rw (e, k, j)
 
 -- so many bytes
 pub length-prints : (c : List ℤ) (i n : ℕ) → length (prints_from c i n) ≡ n
@@ -202,12 +213,12 @@ length-prints c i zero = refl
 length-prints c i (suc n) = ap suc (length-prints c (suc i) n)
 
 -- the byte at a place
-pub get_or-prints : (c : List ℤ) (i n j : ℕ) → j < n → get_or (prints_from c i n) j 0 ≡ print_of (get_or c (i + j) (pos 0))
+pub get_or-prints : (c : List ℤ) (i n j : ℕ) → j < n → get_or (prints_from c i n) j 0 ≡ nat_abs (get_or c (i + j) (pos 0))
 unfolding prints_from
 get_or-prints c i zero j h = absurd (omega arith)
 get_or-prints c i (suc n) zero h =
     let e : i ≡ i + 0 = omega arith in
-    ap (λ (k : ℕ). print_of (get_or c k (pos 0))) e
+    ap (λ (k : ℕ). nat_abs (get_or c k (pos 0))) e
 get_or-prints c i (suc n) (suc j) h =
     let e : suc i + j ≡ i + suc j = omega arith in
-    get_or-prints c (suc i) n j (omega arith) ∙ ap (λ (k : ℕ). print_of (get_or c k (pos 0))) e
+    get_or-prints c (suc i) n j (omega arith) ∙ ap (λ (k : ℕ). nat_abs (get_or c k (pos 0))) e

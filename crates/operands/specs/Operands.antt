@@ -63,7 +63,7 @@ byte_at t q = cond (between code_start (t.used - 2) q) (byte_of (cell t q)) End
 -- of a mark of two cells, the number within l to m in the second
 unfoldable pub second_at : ℕ → ℕ → Table → ℕ → Option ℕ
 unfolding bounded_of
-second_at l m t q = cond (ltb t.used (q + 3)) None (bounded_of l m (cell t (suc q)))
+second_at l m t q = cond (ltb t.used (q + 3)) None (bounded_of l m (cell t (q + 1)))
 
 -- the false exit of a mark of two cells
 abbrev pub exit_of : Table → ℕ → Option ℕ
@@ -79,7 +79,7 @@ unfolding negated_of bounded_of
 counter_at t q =
     cond (ltb t.used (q + 5)) None
     (option_and_then (λ n. option_and_then (λ k. option_map (λ f. record { limit = n; order = k; exit = f })
-    (target_of (cell t (suc (suc (suc q)))) t.used)) (order_of (cell t (suc (suc q))))) (limit_of (cell t (suc q))))
+    (target_of (cell t (q + 3)) t.used)) (order_of (cell t (q + 2)))) (limit_of (cell t (q + 1))))
 
 -- ── a print ─────────────────────────────────────────────────────────────────────────────────────
 

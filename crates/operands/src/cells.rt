@@ -41,8 +41,11 @@ pub struct Counter {
 fn negated(x: i32, most: u16) -> Option<usize>
     ensures { result ≡ negated_of most x }
 {
+    if 0 <= x {
+        return None;
+    }
     let n = x.unsigned_abs();
-    if x < 0 && n <= u32::from(most) {
+    if n <= u32::from(most) {
         Some(n as usize)
     } else {
         None
@@ -57,10 +60,10 @@ fn bounded(x: i32, least: usize, most: usize) -> Option<usize>
         return None;
     }
     let n = x as usize;
-    if least <= n && n <= most {
-        Some(n)
-    } else {
+    if n < least || most < n {
         None
+    } else {
+        Some(n)
     }
 }
 
@@ -81,7 +84,13 @@ fn byte(x: i32) -> Due
 fn holds_print_byte(x: i32) -> bool
     ensures { result ≡ holds_print_byte x }
 {
-    32 <= x && x <= 126 && x != 39
+    if x < 32 {
+        return false;
+    }
+    if 126 < x {
+        return false;
+    }
+    x != 39
 }
 
 // Whether n cells from an index on are bytes of a print.
@@ -113,10 +122,11 @@ impl Code {
         requires { Placed self }
         ensures { result ≡ byte_at (table_in cells.now self) at }
     {
-        if Table::CODE_START <= at && at <= self.end.saturating_sub(2) {
-            byte(self.cell(cells, at))
-        } else {
+        let last = self.end.saturating_sub(2);
+        if at < Table::CODE_START || last < at {
             Due::End
+        } else {
+            byte(self.cell(cells, at))
         }
     }
 

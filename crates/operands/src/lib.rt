@@ -2,6 +2,7 @@
 #![tactic(auto)]
 
 ghost use Rattle.std.specs.Prelude.{◌≡◌, ◌<◌};
+ghost use Rattle.language.specs.Machine.{pick};
 ghost use Rattle.operands.specs.Held.{framed, stopped_as, stepped};
 ghost use Rattle.operands.specs.Turns.{Turns, returned};
 ghost use Rattle.operands.specs.Ready.{Leaving};
@@ -16,6 +17,15 @@ pub struct Frame {
     pub letter: u32,
     pub next: u32,
     pub exit: u32,
+}
+
+impl Frame {
+    // The cell where the letter that called goes on.
+    fn resumes(self, truth: bool) -> u32
+        ensures { result ≡ pick truth self.next self.exit }
+    {
+        if truth { self.next } else { self.exit }
+    }
 }
 
 // What the last turn came to: the run goes on in the same letter's code; it enters a letter's code, since it starts or a call or a return was made, and
@@ -80,10 +90,9 @@ impl Machine {
         }
         let depth = self.depth - 1;
         let frame = frames[depth];
-        let at = if truth { frame.next } else { frame.exit };
         Machine {
             letter: frame.letter as usize,
-            at: at as usize,
+            at: frame.resumes(truth) as usize,
             depth,
             status: Status::Enters,
             ..self
