@@ -20,7 +20,7 @@ condition-asked l Equal s = refl
 
 -- ── counters ────────────────────────────────────────────────────────────────────────────────────
 
-module _ (s : State) (l n k : ℕ) (some : n ≡ 0 → ⊥) where
+module _ (s : State) (l n k : ℕ) (some : 1 ≤ n) where
   is-n : suc (n - 1) ≡ n
   is-n = omega arith
 

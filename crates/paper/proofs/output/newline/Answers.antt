@@ -2,13 +2,10 @@
 use Prim.Native.Nat.{◌+◌}
 use native.Mathlib.Omega.{arith}
 use lib.ListN.{length}
-use borrow.Author.Tests.{le-leb, lt-leb, eq-eqb, ne_eqb}
+use borrow.Author.Tests.{le-leb, lt-leb, ne_eqb}
 use Rattle.language.specs.Effects.{perform}
 use Rattle.paper.proofs.Effects.{paste-one}
 use Rattle.paper.proofs.output.newline.Goals as goal
-
-pub returns-then-m-eq0 : goal.returns-then-m-eq0
-returns-then-m-eq0 c = λ h. rw (c.stop.ensures, eq-eqb _ _ c.if-m-eq0.true)
 
 pub returns-then-w-output : goal.returns-then-w-output
 unfolding perform
