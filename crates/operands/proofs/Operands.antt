@@ -5,33 +5,36 @@ use mathlib.Core.List.{List}
 use mathlib.Core.Logic.{◌⊎◌, inl, inr}
 use Prim.Native.Nat.{ℕ, zero, suc, ◌+◌, ◌-◌, ◌<◌, ◌≤◌}
 use native.Mathlib.Omega.{arith}
-use lib.Dec.{T, eqb}
+use lib.Dec.{T, eqb, ltb}
 use lib.IntN.{ℤ, pos, negsuc, nat_abs}
 use lib.ListN.{length, get_or}
 use lib.Signed.{lt_z, le_z, non_neg}
-use mir.Syntax.{w32, w64}
+use mir.Syntax.{w8, w32, w64}
 use mir.Val.{SFits, Fits, to_z, of_z}
 use borrow.Author.Tests.{lt-ltb, le-ltb, ltb-true, ltb-false, leb-false, ne_eqb, eqb-true, eqb-false}
-use Rattle.std.specs.Prelude.{Some, None, is_some, unwrap_or, option_map}
+use Rattle.std.specs.Prelude.{Option, Some, None, is_some, unwrap_or, option_map, option_and_then}
 use Rattle.language.specs.declared.Table.{Table}
 use Rattle.language.specs.Between.{between}
+use Rattle.language.specs.Limits.{max_cells, max_counters, max_limit}
 use Rattle.language.specs.Machine.{cell}
 use Rattle.language.specs.Layout.{code_start}
 use Rattle.language.specs.Syntax.{constant_code}
+use Rattle.operands.specs.declared.cells.Code.{Code}
+use Rattle.operands.specs.declared.cells.Counter.{Counter}
 use Rattle.operands.specs.declared.cells.Due.TheVariants.{Mark, Transfer, End}
-use Rattle.operands.specs.Operands.{bounded_of, exit_of, second_at, negated_of, byte_of, byte_at, holds_print_byte, prints_from, printable}
+use Rattle.operands.specs.Operands.{bounded_of, target_of, exit_of, second_cell, second_at, negated_of, byte_of, byte_at, holds_print_byte, prints_from, printable, limit_of, order_of, counter_at, table_in, bytes_index, print_at}
 use Rattle.language.proofs.Between.{between-true, between-low, between-high, between-bounds}
-use Rattle.language.proofs.Tests.{by-ltb}
+use Rattle.language.proofs.Tests.{by-ltb, first-true, second-true}
 
 wrong : {X : Type 0} → true ≡ false → X
 wrong e = absurd (false≢true (sym e))
 
--- two readings of the same number
-pub some-same : {a b : ℕ} → Some a ≡ Some b → a ≡ b
-some-same e = ap (λ o. unwrap_or o 0) e
+-- two readings of the same
+pub some-same : {A : Type 0} {a b : A} → Some a ≡ Some b → a ≡ b
+some-same {a = a} e = ap (λ o. unwrap_or o a) e
 
--- no reading is a number
-pub none-some : {X : Type 0} {a : ℕ} → None ≡ Some a → X
+-- nothing that is read is no reading
+pub none-some : {X A : Type 0} {a : A} → None ≡ Some a → X
 none-some e = absurd (false≢true (ap (λ o. is_some o) e))
 
 -- x as an unsigned number
@@ -72,9 +75,9 @@ bounded-bounds l m n (negsuc k) e = none-some e
 
 -- of a mark of two cells too
 pub second-bounds : (l m n : ℕ) (t : Table) (q : ℕ) → second_at l m t q ≡ Some n → (l ≤ n) × (n ≤ m)
-unfolding second_at
+unfolding second_cell second_at
 second-bounds l m n t q e =
-    by-ltb t.used (q + 3) (λ u. cond u None (bounded_of l m (cell t (q + 1))) ≡ Some n → (l ≤ n) × (n ≤ m)) (λ h i. none-some i)
+    by-ltb t.used (q + 3) (λ u. option_and_then (λ z. bounded_of l m z) (cond u None (Some (cell t (q + 1)))) ≡ Some n → (l ≤ n) × (n ≤ m)) (λ h i. none-some i)
     (λ h i. bounded-bounds l m n (cell t (q + 1)) i) e
 
 -- a false exit is at most the used cells
@@ -101,12 +104,47 @@ unfolding negated_of
 negated-in m (pos n) e h = let k = leb-false 0 n e in absurd (omega arith)
 negated-in m (negsuc n) e h = rw (lt-ltb n m (omega arith))
 
--- what is read is no more than m
-pub negated-le : (m n : ℕ) (x : ℤ) → negated_of m x ≡ Some n → n ≤ m
+-- what is read is one of them
+pub negated-bounds : (m n : ℕ) (x : ℤ) → negated_of m x ≡ Some n → (0 < n) × (n ≤ m)
 unfolding negated_of
-negated-le m n (pos k) e = none-some e
-negated-le m n (negsuc k) e =
-    by-ltb k m (λ u. cond u (Some (suc k)) None ≡ Some n → n ≤ m) (λ h i. let j : suc k ≡ n = some-same i in omega arith) (λ h i. none-some i) e
+negated-bounds m n (pos k) e = none-some e
+negated-bounds m n (negsuc k) e =
+    by-ltb k m (λ u. cond u (Some (suc k)) None ≡ Some n → (0 < n) × (n ≤ m)) (λ h i. let j : suc k ≡ n = some-same i in (omega arith, omega arith)) (λ h i. none-some i) e
+
+-- ── a counter ───────────────────────────────────────────────────────────────────────────────────
+
+-- a counter's number, order and false exit lie where they must
+pub record Bounded (t : Table) (x : Counter) : Type 0 where
+  pub some : 0 < x.limit
+  pub limit : x.limit ≤ max_limit
+  pub order : x.order < max_counters
+  pub exit : x.exit ≤ t.used
+
+module _ (t : Table) (q : ℕ) (x : Counter) where
+  -- of what is read in the three cells
+  read-bounds : (o p r : Option ℕ) → limit_of (cell t (q + 1)) ≡ o → order_of (cell t (q + 2)) ≡ p → target_of (cell t (q + 3)) t.used ≡ r
+      → option_and_then (λ n. option_and_then (λ k. option_map (λ f. record { limit = n; order = k; exit = f }) r) p) o ≡ Some x → Bounded t x
+  read-bounds None p r a b c i = none-some i
+  read-bounds (Some n) None r a b c i = none-some i
+  read-bounds (Some n) (Some k) None a b c i = none-some i
+  read-bounds (Some n) (Some k) (Some f) a b c i =
+      let l = negated-bounds max_limit n (cell t (q + 1)) a in
+      subst (λ (y : Counter). Bounded t y) (some-same i)
+      (record {
+        some = l.0;
+        limit = l.1;
+        order = omega (arith, (bounded-bounds 0 (max_counters - 1) k (cell t (q + 2)) b).1);
+        exit = (bounded-bounds code_start t.used f (cell t (q + 3)) c).1;
+      })
+
+  pub counter-bounds : counter_at t q ≡ Some x → Bounded t x
+  unfolding counter_at
+  counter-bounds e =
+      by-ltb t.used (q + 5)
+      (λ u. cond u None (option_and_then (λ n. option_and_then (λ k. option_map (λ f. record { limit = n; order = k; exit = f })
+      (target_of (cell t (q + 3)) t.used)) (order_of (cell t (q + 2)))) (limit_of (cell t (q + 1)))) ≡ Some x → Bounded t x)
+      (λ _ i. none-some i)
+      (λ _ i. read-bounds (limit_of (cell t (q + 1))) (order_of (cell t (q + 2))) (target_of (cell t (q + 3)) t.used) refl refl refl i) e
 
 -- ── a byte ──────────────────────────────────────────────────────────────────────────────────────
 
@@ -222,3 +260,43 @@ get_or-prints c i (suc n) zero h =
 get_or-prints c i (suc n) (suc j) h =
     let e : suc i + j ≡ i + suc j = omega arith in
     get_or-prints c (suc i) n j (omega arith) ∙ ap (λ (k : ℕ). nat_abs (get_or c k (pos 0))) e
+
+-- a byte of a print can be cast
+print-castable : (x : ℤ) → holds_print_byte x ≡ true → T (non_neg x) × Fits w8 (nat_abs x)
+unfolding holds_print_byte
+print-castable (negsuc n) e = absurd (false≢true e)
+print-castable (pos n) e = go (eqb n 39) e
+  where
+    go : (u : Bool) → cond u false (between 32 126 n) ≡ true → Unit {0} × Fits w8 n
+    go true i = absurd (false≢true i)
+    go false i = let b = between-bounds 32 126 n i in (tt, record { fits = omega (arith, b.1) })
+
+-- each byte of a print has its form
+print-each : (c : List ℤ) (i n j : ℕ) → printable c i n ≡ true → j < n → holds_print_byte (get_or c (i + j) (pos 0)) ≡ true
+unfolding printable
+print-each c i zero j e h = absurd (omega arith)
+print-each c i (suc n) zero e h = let k : i + 0 ≡ i = omega arith in rw k (first-true _ _ e)
+print-each c i (suc n) (suc j) e h = let k : i + suc j ≡ suc i + j = omega arith in rw k (print-each c (suc i) n j (second-true _ _ e) (omega arith))
+
+-- so that it can be cast
+pub prints-castable : (c : List ℤ) (i n j : ℕ) → printable c i n ≡ true → j < n → T (non_neg (get_or c (i + j) (pos 0))) × Fits w8 (nat_abs (get_or c (i + j) (pos 0)))
+prints-castable c i n j e h = print-castable (get_or c (i + j) (pos 0)) (print-each c i n j e h)
+
+-- what a print promises of its length
+pub record Printed (c : List ℤ) (p : Code) (q n : ℕ) : Type 0 where
+  pub early : q + 3 + n ≤ p.end
+  pub form : printable c (bytes_index p q) n ≡ true
+
+pub print-good : (c : List ℤ) (p : Code) (q n : ℕ) → print_at c p q ≡ Some n → Printed c p q n
+unfolding print_at
+print-good c p q n e = go (second_at 0 max_cells (table_in c p) q) e
+  where
+    form : (m : ℕ) (u : Bool) → printable c (bytes_index p q) m ≡ u → q + 3 + m ≤ p.end → cond u (Some m) None ≡ Some n → Printed c p q n
+    form m true f h i = subst (λ (k : ℕ). Printed c p q k) (some-same i) (record { early = h; form = f })
+    form m false f h i = none-some i
+
+    go : (o : Option ℕ) → option_and_then (λ m. cond (ltb p.end (q + 3 + m)) None (cond (printable c (bytes_index p q) m) (Some m) None)) o ≡ Some n → Printed c p q n
+    go None i = none-some i
+    go (Some m) i =
+        by-ltb p.end (q + 3 + m) (λ u. cond u None (cond (printable c (bytes_index p q) m) (Some m) None) ≡ Some n → Printed c p q n) (λ _ j. none-some j)
+        (λ h j. form m (printable c (bytes_index p q) m) refl h j) i

@@ -28,7 +28,7 @@ use Rattle.operands.specs.declared.cells.Code.{Code}
 use Rattle.operands.specs.declared.cells.Counter.{Counter}
 use Rattle.operands.specs.declared.cells.Due.{Due}
 use Rattle.operands.specs.declared.cells.Due.TheVariants.{Mark, Transfer, End}
-use Rattle.operands.specs.Operands.{table_in, byte_of, byte_at, target_of, bounded_of, second_at, exit_of, negated_of, digit_at, order_of, limit_of, counter_at}
+use Rattle.operands.specs.Operands.{table_in, byte_of, byte_at, target_of, bounded_of, second_cell, second_at, exit_of, negated_of, digit_at, order_of, limit_of, counter_at}
 use Rattle.operands.specs.Operands.{holds_print_byte, prints_from, printable, bytes_index, print_at}
 use Rattle.language.proofs.Between.{between-true, between-high, between-bounds}
 use Rattle.language.proofs.LayoutPositions.{forward-add}
@@ -50,17 +50,26 @@ bounded-read l m (pos n) k = go (between l m n)
     go true = refl
     go false = refl
 
--- the number in the second cell of a mark of two cells
+-- the second cell of a mark of two cells
+pub cell-read : (t : Table) (q : ℕ) (k : ℤ → Decoded) → sound (ltb (suc (suc q)) t.used) (k (cell t (suc q))) ≡ decoded_from (second_cell t q) k
+unfolding sound second_cell
+cell-read t q k =
+    rw add-one
+    (by-ltb t.used (q + 3) (λ u. sound (ltb (suc (suc q)) t.used) (k (cell t (suc q))) ≡ decoded_from (cond u None (Some (cell t (suc q)))) k)
+    (λ h. rw (le-ltb (suc (suc q)) t.used (omega arith)))
+    (λ h. rw (lt-ltb (suc (suc q)) t.used (omega arith))))
+
+-- the number that it holds
 pub second-read : (l m : ℕ) (t : Table) (q : ℕ) (k : ℕ → Decoded)
     → sound (ltb (suc (suc q)) t.used) (natural (cell t (suc q)) (λ n. sound (between l m n) (k n))) ≡ decoded_from (second_at l m t q) k
-unfolding sound second_at
+unfolding second_at
 second-read l m t q k =
-    rw add-one
-    (by-ltb t.used (q + 3)
-    (λ u. sound (ltb (suc (suc q)) t.used) (natural (cell t (suc q)) (λ n. sound (between l m n) (k n)))
-    ≡ decoded_from (cond u None (bounded_of l m (cell t (suc q)))) k)
-    (λ h. rw (le-ltb (suc (suc q)) t.used (omega arith)))
-    (λ h. rw (lt-ltb (suc (suc q)) t.used (omega arith)) (bounded-read l m (cell t (suc q)) k)))
+    cell-read t q (λ z. natural z (λ n. sound (between l m n) (k n)))
+    ∙ go (second_cell t q)
+  where
+    go : (o : Option ℤ) → decoded_from o (λ z. natural z (λ n. sound (between l m n) (k n))) ≡ decoded_from (option_and_then (λ z. bounded_of l m z) o) k
+    go None = refl
+    go (Some z) = bounded-read l m z k
 
 add-two : (q : ℕ) → q + 2 ≡ suc (suc q)
 add-two q = omega arith
@@ -81,15 +90,11 @@ unfolding mark
 variable-read t q a = rw add-two (second-read 1 max_variables t q (λ d. code (operate_at (variable a d) (suc (suc q)))))
 
 -- a constant, of its cell
-pub constant-read : (t : Table) (q : ℕ) → mark t q is_constant ≡ cond (ltb t.used (q + 3)) damaged (cond (is_value (cell t (suc q))) (code (operate_at (constant (cell t (suc q))) (q + 2))) damaged)
+pub constant-read : (t : Table) (q : ℕ) → mark t q is_constant ≡ decoded_from (second_cell t q) (λ z. cond (is_value z) (code (operate_at (constant z) (q + 2))) damaged)
 unfolding mark sound
 constant-read t q =
-    rw add-two
-    (by-ltb t.used (q + 3)
-    (λ u. sound (ltb (suc (suc q)) t.used) (sound (is_value (cell t (suc q))) (code (operate_at (constant (cell t (suc q))) (suc (suc q)))))
-    ≡ cond u damaged (cond (is_value (cell t (suc q))) (code (operate_at (constant (cell t (suc q))) (suc (suc q)))) damaged))
-    (λ h. rw (le-ltb (suc (suc q)) t.used (omega arith)))
-    (λ h. rw (lt-ltb (suc (suc q)) t.used (omega arith)) (go (is_value (cell t (suc q))) (code (operate_at (constant (cell t (suc q))) (suc (suc q)))))))
+    cell-read t q (λ z. sound (is_value z) (code (operate_at (constant z) (suc (suc q)))))
+    ∙ (λ i. decoded_from (second_cell t q) (λ z. (go (is_value z) (code (operate_at (constant z) (suc (suc q)))) ∙ ap (λ (n : ℕ). cond (is_value z) (code (operate_at (constant z) n)) damaged) (sym (add-two q))) i))
   where
     go : (u : Bool) (x : Decoded) → sound u x ≡ cond u x damaged
     go true x = refl
@@ -383,9 +388,13 @@ module _ (c : List ℤ) (p : Code) (q : ℕ) (few : p.end ≤ max_cells) where
 
   -- a print, of its length
   pub print-read : mark t q is_print ≡ decoded_from (print_at c p q) printed
-  unfolding mark print_at sound second_at
+  unfolding mark print_at second_at
   print-read =
-      by-ltb t.used (q + 3)
-      (λ v. mark t q is_print ≡ decoded_from (option_and_then fitting (cond v None (bounded_of 0 max_cells (cell t (q + 1))))) printed)
-      (λ h. rw (le-ltb (suc (suc q)) t.used (omega arith)))
-      (λ h. rw (lt-ltb (suc (suc q)) t.used (omega arith)) (length-read (cell t (suc q)) ∙ ap (λ (r : ℕ). decoded_from (option_and_then fitting (bounded_of 0 max_cells (cell t r))) printed) (sym (add-one q))))
+      cell-read t q (λ z. natural z (λ n. sound (ltb (forward n (suc (suc q))) t.used) (bytes n)))
+      ∙ go (second_cell t q)
+    where
+      go : (o : Option ℤ)
+          → decoded_from o (λ z. natural z (λ n. sound (ltb (forward n (suc (suc q))) t.used) (bytes n)))
+          ≡ decoded_from (option_and_then fitting (option_and_then (λ z. bounded_of 0 max_cells z) o)) printed
+      go None = refl
+      go (Some z) = length-read z

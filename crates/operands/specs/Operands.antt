@@ -60,10 +60,14 @@ unfoldable pub byte_at : Table → ℕ → Due
 unfolding byte_of
 byte_at t q = cond (between code_start (t.used - 2) q) (byte_of (cell t q)) End
 
--- of a mark of two cells, the number within l to m in the second
+-- the second cell of a mark of two cells
+unfoldable pub second_cell : Table → ℕ → Option ℤ
+second_cell t q = cond (ltb t.used (q + 3)) None (Some (cell t (q + 1)))
+
+-- the number within l to m that it holds
 unfoldable pub second_at : ℕ → ℕ → Table → ℕ → Option ℕ
-unfolding bounded_of
-second_at l m t q = cond (ltb t.used (q + 3)) None (bounded_of l m (cell t (q + 1)))
+unfolding second_cell bounded_of
+second_at l m t q = option_and_then (λ z. bounded_of l m z) (second_cell t q)
 
 -- the false exit of a mark of two cells
 abbrev pub exit_of : Table → ℕ → Option ℕ

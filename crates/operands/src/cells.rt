@@ -2,7 +2,7 @@
 ghost use Rattle.std.specs.Prelude.{◌≡◌, ◌<◌, ◌+◌, ◌≤◌};
 ghost use Rattle.language.specs.Limits.{max_cells, store_cells};
 ghost use Rattle.language.specs.Machine.{cell};
-ghost use Rattle.operands.specs.Operands.{byte_of, byte_at, target_of, second_at, exit_of, bounded_of, digit_at, negated_of, counter_at, print_at};
+ghost use Rattle.operands.specs.Operands.{byte_of, byte_at, target_of, second_cell, second_at, exit_of, bounded_of, digit_at, negated_of, counter_at, print_at};
 ghost use Rattle.operands.specs.Operands.{table_in, holds_print_byte, printable};
 ghost use Rattle.operands.specs.Ready.{Placed, Inside};
 
@@ -60,11 +60,7 @@ fn bounded(x: i32, least: usize, most: usize) -> Option<usize>
         return None;
     }
     let n = x as usize;
-    if n < least || most < n {
-        None
-    } else {
-        Some(n)
-    }
+    if n < least || most < n { None } else { Some(n) }
 }
 
 // A mark's byte, a transfer, or neither.
@@ -137,7 +133,19 @@ impl Code {
         bounded(x, Table::CODE_START, self.end)
     }
 
-    // Of a mark of two cells, the number of `least` to `most` in the second.
+    // The second cell of a mark of two cells.
+    pub fn second_cell(self, cells: &[i32; STORE_CELLS], at: usize) -> Option<i32>
+        requires { Inside self at }
+        ensures { result ≡ second_cell (table_in cells.now self) at }
+    {
+        if self.end < at + 3 {
+            None
+        } else {
+            Some(self.cell(cells, at + 1))
+        }
+    }
+
+    // The number of `least` to `most` that it holds.
     fn second_at(
         self,
         cells: &[i32; STORE_CELLS],
@@ -148,10 +156,8 @@ impl Code {
         requires { Inside self at }
         ensures { result ≡ second_at least most (table_in cells.now self) at }
     {
-        if self.end < at + 3 {
-            return None;
-        }
-        bounded(self.cell(cells, at + 1), least, most)
+        let x = self.second_cell(cells, at)?;
+        bounded(x, least, most)
     }
 
     // The false exit of a mark of two cells.

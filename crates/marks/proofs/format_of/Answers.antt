@@ -10,7 +10,7 @@ use Rattle.language.specs.Limits.{max_letters}
 use Rattle.language.specs.Letters.{first_letter}
 use Rattle.language.proofs.Keys.{every_from, every_of, of-keys, or_key, in-gap}
 use Rattle.marks.specs.declared.Format.{Format}
-use Rattle.marks.specs.declared.Format.TheVariants.{Bare, Digit, Value, Exit, Counter, Bytes, Transfer, NoCode}
+use Rattle.marks.specs.declared.Format.TheVariants.{Bare, Digit, Value, Exit, Counter, Bytes, NoCode}
 use Rattle.marks.specs.Formats.{format_of}
 use Rattle.marks.proofs.format_of.Goals as goal
 
@@ -22,12 +22,11 @@ rank Value = 2
 rank Exit = 3
 rank Counter = 4
 rank Bytes = 5
-rank Transfer = 6
-rank NoCode = 7
+rank NoCode = 6
 
 abbrev ranked : ℕ → Format
 ranked n =
-    cond (eqb n 0) Bare (cond (eqb n 1) Digit (cond (eqb n 2) Value (cond (eqb n 3) Exit (cond (eqb n 4) Counter (cond (eqb n 5) Bytes (cond (eqb n 6) Transfer NoCode))))))
+    cond (eqb n 0) Bare (cond (eqb n 1) Digit (cond (eqb n 2) Value (cond (eqb n 3) Exit (cond (eqb n 4) Counter (cond (eqb n 5) Bytes NoCode)))))
 
 ranked-back : (f : Format) → ranked (rank f) ≡ f
 ranked-back Bare = refl
@@ -36,7 +35,6 @@ ranked-back Value = refl
 ranked-back Exit = refl
 ranked-back Counter = refl
 ranked-back Bytes = refl
-ranked-back Transfer = refl
 ranked-back NoCode = refl
 
 -- the test that is computed of each byte
@@ -51,7 +49,7 @@ at-keys f ks t b h = of-rank f b (of-keys (has f) ks t b h)
 
 -- the keys of the match's arms, the last arm first
 abbrev arms : List (List ℕ)
-arms = (255 ∷ []) ∷ (167 ∷ []) ∷ (36 ∷ []) ∷ (48 ∷ 74 ∷ 78 ∷ []) ∷ (175 ∷ []) ∷ (70 ∷ 83 ∷ []) ∷ (45 ∷ 47 ∷ 65 ∷ 73 ∷ 88 ∷ []) ∷ []
+arms = (167 ∷ []) ∷ (36 ∷ []) ∷ (48 ∷ 74 ∷ 78 ∷ []) ∷ (175 ∷ []) ∷ (70 ∷ 83 ∷ []) ∷ (45 ∷ 47 ∷ 65 ∷ 73 ∷ 88 ∷ []) ∷ []
 
 pub returns-in-70 : goal.returns-in-70
 unfolding format_of
@@ -68,10 +66,6 @@ returns-in-36 c = at-keys Counter (36 ∷ []) tt c.args.b c.in-36.is
 pub returns-in-167 : goal.returns-in-167
 unfolding format_of
 returns-in-167 c = at-keys Bytes (167 ∷ []) tt c.args.b c.in-167.is
-
-pub returns-in-255 : goal.returns-in-255
-unfolding format_of
-returns-in-255 c = at-keys Transfer (255 ∷ []) tt c.args.b c.in-255.is
 
 pub returns-in_default : goal.returns-in_default
 unfolding format_of

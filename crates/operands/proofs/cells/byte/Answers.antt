@@ -5,7 +5,7 @@ use mir.Syntax.{w32}
 use mir.Val.{to_z, of_z}
 use mir.Facts.{to_z-of_z}
 use Rattle.language.specs.Syntax.{constant_code}
-use Rattle.operands.proofs.Operands.{byte_high, byte-negated, byte-none, negated-le}
+use Rattle.operands.proofs.Operands.{byte_high, byte-negated, byte-none, negated-bounds}
 use Rattle.operands.proofs.cells.byte.Goals as goal
 
 pub returns-then-x-gt0 : goal.returns-then-x-gt0
@@ -15,8 +15,8 @@ returns-then-x-gt0 c =
 
 pub overflow_cast-result : goal.overflow_cast-result
 overflow_cast-result c =
-    let h = negated-le constant_code c.in-Some.b _ (sym (rw c.from.ensures at c.in-Some.ensures)) in
-    record { fits = omega arith }
+    let h = negated-bounds constant_code c.in-Some.b _ (sym (rw c.from.ensures at c.in-Some.ensures)) in
+    record { fits = omega (arith, h.1) }
 
 pub returns-in-Some : goal.returns-in-Some
 returns-in-Some c =
