@@ -97,18 +97,16 @@ pub fn constant(
     requires { Reading code m }
     ensures { Turns (mark_at cells.now code is_constant) (stacked m list.old) (stacked result list.new) }
 {
-    let at = m.at;
-    if code.end < at + 3 {
+    let Some(v) = code.second_cell(cells, m.at) else {
         return m.stop(Ending::Damaged);
-    }
-    let v = code.cell(cells, at + 1);
+    };
     if !is_value(v) {
         return m.stop(Ending::Damaged);
     }
     if m.left == 0 {
         return m.stop(Ending::Spent);
     }
-    push(m, list, v, at + 2)
+    push(m, list, v, m.at + 2)
 }
 
 // The marks `F` and `S`.
