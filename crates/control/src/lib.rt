@@ -82,27 +82,17 @@ pub fn end_of<'a>(
     ensures { Turns (due_at cells.now code) (framed m frames.now) (framed result frames.now) }
 {
     let at = m.at;
-    if at < Table::CODE_START {
+    if at < Table::CODE_START || code.end < at {
         return m.stop(Ending::Damaged);
     }
-    if code.end < at {
-        return m.stop(Ending::Damaged);
-    }
-    let x = code.cell(cells, at);
-    if at == code.end {
-        if x == 1 {
-            return m.leave(frames, true);
-        }
-        return m.stop(Ending::Damaged);
-    }
-    if at + 1 == code.end {
-        if x == 0 {
+    match (code.end - at, code.cell(cells, at)) {
+        (0, 1) => m.leave(frames, true),
+        (1, 0) => {
             if m.left == 0 {
                 return m.stop(Ending::Spent);
             }
-            return m.go(at, m.height).leave(frames, false);
+            m.go(at, m.height).leave(frames, false)
         }
-        return m.stop(Ending::Damaged);
+        _ => m.stop(Ending::Damaged),
     }
-    m.stop(Ending::Damaged)
 }

@@ -38,6 +38,7 @@ pub struct Counter {
 }
 
 // A number of 1 to `most`, which its cell holds negated: a mark's byte, a counter's number.
+#[tactic(auto, unfolding(crate::specs::Operands::negated_of))]
 fn negated(x: i32, most: u16) -> Option<usize>
     ensures { result ≡ negated_of most x }
 {
@@ -53,6 +54,7 @@ fn negated(x: i32, most: u16) -> Option<usize>
 }
 
 // A number of `least` to `most`: a cell's number, a variable's digit, a counter's order, a print's length.
+#[tactic(auto, unfolding(crate::specs::Operands::bounded_of))]
 fn bounded(x: i32, least: usize, most: usize) -> Option<usize>
     ensures { result ≡ bounded_of least most x }
 {
@@ -64,6 +66,7 @@ fn bounded(x: i32, least: usize, most: usize) -> Option<usize>
 }
 
 // A mark's byte, a transfer, or neither.
+#[tactic(auto, unfolding(crate::specs::Operands::byte_of, crate::specs::Operands::negated_of))]
 fn byte(x: i32) -> Due
     ensures { result ≡ byte_of x }
 {
@@ -77,19 +80,15 @@ fn byte(x: i32) -> Due
 }
 
 // Whether a cell holds a byte of a print, 32 to 126 other than `'`.
+#[tactic(auto, unfolding(crate::specs::Operands::holds_print_byte))]
 fn holds_print_byte(x: i32) -> bool
     ensures { result ≡ holds_print_byte x }
 {
-    if x < 32 {
-        return false;
-    }
-    if 126 < x {
-        return false;
-    }
-    x != 39
+    matches!(x, 32..=126) && x != i32::from(b'\'')
 }
 
 // Whether n cells from an index on are bytes of a print.
+#[tactic(auto, unfolding(crate::specs::Operands::printable))]
 fn prints(cells: &[i32; STORE_CELLS], from: usize, n: usize) -> bool
     requires { from + n ≤ store_cells }
     ensures { result ≡ printable cells.now from n }
@@ -114,6 +113,7 @@ impl Code {
     }
 
     // What the due cell holds; neither a mark nor a transfer for the last two cells, and for what is outside 2 to used.
+    #[tactic(auto, unfolding(crate::specs::Operands::byte_at))]
     pub fn byte_at(self, cells: &[i32; STORE_CELLS], at: usize) -> Due
         requires { Placed self }
         ensures { result ≡ byte_at (table_in cells.now self) at }
@@ -134,6 +134,7 @@ impl Code {
     }
 
     // The second cell of a mark of two cells.
+    #[tactic(auto, unfolding(crate::specs::Operands::second_cell))]
     pub fn second_cell(self, cells: &[i32; STORE_CELLS], at: usize) -> Option<i32>
         requires { Inside self at }
         ensures { result ≡ second_cell (table_in cells.now self) at }
@@ -146,6 +147,7 @@ impl Code {
     }
 
     // The number of `least` to `most` that it holds.
+    #[tactic(auto, unfolding(crate::specs::Operands::second_at))]
     fn second_at(
         self,
         cells: &[i32; STORE_CELLS],
@@ -177,6 +179,7 @@ impl Code {
     }
 
     // A counter's number, order and false exit.
+    #[tactic(auto, unfolding(crate::specs::Operands::counter_at))]
     pub fn counter_at(self, cells: &[i32; STORE_CELLS], at: usize) -> Option<Counter>
         requires { Inside self at }
         ensures { result ≡ counter_at (table_in cells.now self) at }
@@ -191,6 +194,7 @@ impl Code {
     }
 
     // The length of a print, whose bytes each have their form. The first of them stands at the index `base + at + 1`.
+    #[tactic(auto, unfolding(crate::specs::Operands::print_at))]
     pub fn print_at(self, cells: &[i32; STORE_CELLS], at: usize) -> Option<usize>
         requires { Inside self at }
         ensures { result ≡ print_at cells.now self at }

@@ -21,6 +21,7 @@ pub struct Frame {
 
 impl Frame {
     // The cell where the letter that called goes on.
+    #[tactic(auto, unfolding(language::specs::Machine::pick))]
     fn resumes(self, truth: bool) -> u32
         ensures { result ≡ pick truth self.next self.exit }
     {

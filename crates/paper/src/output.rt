@@ -35,6 +35,7 @@ fn put_column(output: &mut [u8], at: usize, value: i32) -> usize
 }
 
 // The mark `O`.
+#[tactic(auto, unfolding(language::specs::Effects::perform))]
 pub fn write(m: Machine, list: &[i32; HEIGHT], output: &mut [u8]) -> Machine
     requires { Writing m output.old }
     ensures { Turns (operator_turn write)
@@ -56,6 +57,7 @@ pub fn write(m: Machine, list: &[i32; HEIGHT], output: &mut [u8]) -> Machine
 }
 
 // The mark `X`.
+#[tactic(auto, unfolding(language::specs::Effects::perform))]
 pub fn newline(m: Machine, output: &mut [u8]) -> Machine
     requires { Writing m output.old }
     ensures { Turns (operator_turn newline) (printing m output.old) (printing result output.new) }

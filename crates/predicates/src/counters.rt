@@ -9,7 +9,7 @@ use operands::Machine;
 use operands::cells::{Code, Counter};
 
 // A counter: "while its count of trues is below n it is true and the count rises by one, else it is false and the count is 0".
-#[tactic(auto, using(crate::proofs::Counted::counted))]
+#[tactic(auto, using(crate::proofs::Effects::counted))]
 pub fn counter(
     m: Machine,
     cells: &[i32; STORE_CELLS],
@@ -27,9 +27,8 @@ pub fn counter(
         return m.stop(Ending::Spent);
     }
     let i = m.letter * Table::COUNTERS + order;
-    let c = counts[i] as usize;
-    if c < limit {
-        counts[i] = (c + 1) as u32;
+    if (counts[i] as usize) < limit {
+        counts[i] += 1;
         return m.go(at + 4, m.height);
     }
     // Never so. The test keeps this way a branch: a select of the two ways would wait for the count, at half the speed.

