@@ -10,7 +10,7 @@ use Rattle.language.specs.declared.Ending.TheVariants.{Spent}
 use Rattle.language.specs.Letters.{letter_index}
 use Rattle.language.specs.Roles.{steward_permission, cashier_role, bars}
 use Rattle.language.specs.Machine.{Instruction, transfer, fail, operate_at, test_at, call_at, Decoded, last, damaged, code, decode}
-use Rattle.language.specs.Tables.{table_from, decode_at, stands_at, barred_at, execute}
+use Rattle.language.specs.Tables.{decode_at, stands_at, barred_at, execute}
 use Rattle.book.specs.declared.Refusal.{Refusal}
 use Rattle.book.specs.Calls.{Run, runs}
 use Rattle.book.specs.Replies.{reported, tells}
@@ -22,6 +22,7 @@ use Rattle.book.proofs.Refusals.{refusal-refuses, free-run}
 use Rattle.book.proofs.Demand3.{history, always, permissions-after}
 use Rattle.operands.specs.Loop.{Configuration, Turn, continues, enters, finishes, halt, instruction_turn, decoded_turn}
 use Rattle.operands.specs.declared.cells.Code.{Code}
+use Rattle.operands.specs.Operands.{table_in}
 use Rattle.interpreter.specs.Fetching.{fetched, Point, Progress, next, over, turn_by, proceeds, turned_on, course, comes_to, starts_at, leaves, on_turn, goes_on}
 use Rattle.interpreter.specs.Claims.{PairStored, GoOnAlike, turns_of, AnswersRemain, ObeysNone}
 use Rattle.interpreter.proofs.Allowed.{Allowed, AllowedTurn, decoded-allowed}

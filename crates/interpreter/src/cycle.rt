@@ -100,10 +100,10 @@ pub fn drive<'a>(
         left: allowance,
         status: Status::Enters,
     };
-    while m.status == Status::Enters {
+    while let Status::Enters = m.status {
         let pair = fetch(used, m.letter);
         m.status = Status::Goes;
-        while m.status == Status::Goes {
+        while let Status::Goes = m.status {
             m = obey(
                 m,
                 cells,
