@@ -180,6 +180,11 @@ pub record Stretch (h₀ : Held) (p : Code) (h : Held) : Type 0 where
   pub most : left_over h.machine ≤ left_over h₀.machine
   pub fewer : (h.machine.status ≡ Goes → ⊥) → left_over h.machine < left_over h₀.machine
 
+-- while the code goes on, the configuration fits
+pub stretch-fit : {n : ℕ} {o : List ℕ} {r : Outcome} {h₀ : Held} {p : Code} {h : Held} → Stretch h₀ p h → Looping n o r h₀ → h.machine.status ≡ Goes
+    → Fit n o (configuration_of h)
+stretch-fit {n} {o} {r} {h₀} {p} {h} st loop e = fit_of n o h e (st.keeps n o r loop).kept
+
 -- at its start
 pub stretch-none : (h : Held) (p : Code) → h.machine.status ≡ Goes → p ≡ fetched h.used h.machine.letter → Stretch h p h
 stretch-none h p z e = record { keeps = λ n o r l. l; pair = λ _. e; most = le_refl _; fewer = λ w. absurd (w z) }
