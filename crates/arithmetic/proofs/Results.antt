@@ -8,12 +8,13 @@ use Rattle.language.specs.declared.Ending.{Ending}
 use Rattle.language.specs.declared.Ending.TheVariants.{Range, ZeroDivisor}
 use Rattle.language.specs.Syntax.{operator}
 use Rattle.language.specs.Values.{is_value}
+use Rattle.language.specs.Division.{quotient}
 use Rattle.language.specs.Effects.{State, Effect, goes, stops, top, second, needs, replaced, combined, ranged, perform}
 use Rattle.arithmetic.specs.declared.UnaryOperator.{UnaryOperator}
 use Rattle.arithmetic.specs.declared.UnaryOperator.TheVariants.{Absolute, Negate}
 use Rattle.arithmetic.specs.declared.BinaryOperator.{BinaryOperator}
 use Rattle.arithmetic.specs.declared.BinaryOperator.TheVariants.{Add, Subtract, Multiply, Divide}
-use Rattle.arithmetic.specs.Results.{value_of, unary_of, unary_result, binary_of, binary_result}
+use Rattle.arithmetic.specs.Results.{value_of, unary_of, unary_result, binary_of, divided, binary_result}
 
 -- what a result does: a value makes a state, and an ending stops the run
 abbrev pub done : (State → ℤ → State) → Result ℤ Ending → State → Effect
@@ -48,3 +49,11 @@ binary-operated Add s = ap (λ (e : Effect). needs 2 s e) (ranged-done combined 
 binary-operated Subtract s = ap (λ (e : Effect). needs 2 s e) (ranged-done combined s _)
 binary-operated Multiply s = ap (λ (e : Effect). needs 2 s e) (ranged-done combined s _)
 binary-operated Divide s = ap (λ (e : Effect). needs 2 s e) (divided-done combined s (eqb (nat_abs (top s)) 0) _)
+
+-- a quotient is tested for the range
+pub divided-ranged : (x y q : ℤ) → divided x y ≡ Ok q → binary_result Divide x y ≡ value_of q
+divided-ranged x y q e = go (eqb (nat_abs y) 0) e
+  where
+    go : (u : Bool) → cond u (Err ZeroDivisor) (Ok (quotient x y)) ≡ Ok q → cond u (Err ZeroDivisor) (value_of (quotient x y)) ≡ value_of q
+    go true i = absurd cc
+    go false i = let k : quotient x y ≡ q = cc in ap (λ (z : ℤ). value_of z) k

@@ -11,7 +11,7 @@ use language::{CONSTANT_CODE, LETTERS, PRINT_CODE, STORE_CELLS, Table};
 use operands::cells::{Code, Due};
 use validation::is_value;
 
-// The calls of all letters by all letters: the place 26 a + b is 1 where a calls b.
+// The calls of all letters by all letters: the place 26 a + b is 1 where a calls b. Numbers in one array, as the clause `Reads` says it of a list.
 pub const CALLS: usize = LETTERS * LETTERS;
 
 // A mark's format, of document 01's list of marks and their cells: "code", "code, digit", "code, the value", "code, false", a counter's "-36, -n,
@@ -28,6 +28,7 @@ enum Format {
 }
 
 // The format of the mark whose code is this byte.
+#[tactic(auto, unfolding(crate::specs::Formats::format_of, language::specs::Machine::kind))]
 fn format_of(b: u8) -> Format
     ensures { result ≡ format_of b }
 {
