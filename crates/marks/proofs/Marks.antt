@@ -2,17 +2,21 @@
 use mathlib.Core.Path.{◌≡◌, refl, sym, ap, ◌∙◌, subst}
 use mathlib.Core.Bool.{Bool, true, false, cond, false≢true}
 use mathlib.Core.List.{List, [], ◌∷◌}
-use Prim.Native.Nat.{ℕ, zero, suc, ◌+◌, ◌-◌, ◌≤◌, ◌<◌}
+use Prim.Native.Nat.{ℕ, zero, suc, ◌+◌, ◌≤◌, ◌<◌}
 use native.Mathlib.Omega.{arith}
+use native.Mathlib.Numerals.{add-one}
 use lib.IntN.{ℤ, pos, negsuc}
 use lib.Dec.{eqb, ltb}
+use mir.Syntax.{w32}
+use mir.Val.{to_z, of_z}
 use borrow.Author.Tests.{eqb-true, eqb-false}
+use Rattle.std.specs.Prelude.{Option, Some, None, option_map, option_and_then}
 use Rattle.language.specs.declared.Table.{Table}
-use Rattle.language.specs.Limits.{max_cells, max_letters, max_counters}
+use Rattle.language.specs.Limits.{max_cells, max_letters}
 use Rattle.language.specs.Letters.{first_letter, last_letter, is_letter, letter_index}
 use Rattle.language.specs.Layout.{code_start}
 use Rattle.language.specs.Lookup.{lookup}
-use Rattle.language.specs.Syntax.{constant_code, Operation, operator, print, Predicate, counter}
+use Rattle.language.specs.Syntax.{Operation, operator, constant, Predicate}
 use Rattle.language.specs.Values.{is_value}
 use Rattle.language.specs.Machine.{Instruction, transfer, fail, operate_at, test_at, call_at, Decoded, last, damaged, code, cell}
 use Rattle.language.specs.Machine.{Kind, is_constant, is_print, is_counter, is_none, is_operator, is_variable, is_condition, is_call, kinds, kind, mark, sound, natural, exactly, decode}
@@ -20,62 +24,80 @@ use Rattle.language.specs.Tables.{table_from}
 use Rattle.language.proofs.Tests.{by-ltb}
 use Rattle.language.proofs.Between.{between-bounds}
 use Rattle.language.proofs.Letters.{letter-lt}
-use Rattle.operands.specs.Operands.{transfer_byte, end_byte, byte_of, byte_at, exit_of, digit_at, target_of, limit_of, order_of, extent_of, prints_from, printable, counter_at, print_at}
-use Rattle.operands.proofs.Operands.{negated-le}
-use Rattle.operands.proofs.OperandsDecoding.{call-kind, mark-decoded, transfer-decoded, condition-read, call-read, constant-read, variable-read, count-read, print-read}
-use Rattle.operands.proofs.OperandsDecoding.{decode-zero, decode-low, decode-high, decode-last, decode-fail, exact-yes, exact-no}
-use Rattle.marks.specs.declared.Format.{Format}
-use Rattle.marks.specs.declared.Format.TheVariants.{Bare, Digit, Value, Exit, Counter, Bytes, Transfer, NoCode}
+use Rattle.operands.specs.declared.cells.Code.{Code}
+use Rattle.operands.specs.declared.cells.Counter.{Counter}
+use Rattle.operands.specs.declared.cells.Due.{Due}
+use Rattle.operands.specs.declared.cells.Due.TheVariants.{Mark, Transfer, End}
+use Rattle.operands.specs.Operands.{byte_at, second_cell, second_at, exit_of, digit_at, target_of, bounded_of, table_in, counter_at, print_at}
+use Rattle.operands.proofs.Operands.{none-some, some-same, print-good}
+use Rattle.operands.proofs.OperandsDecoding.{decoded_from, call-kind, mark-decoded, transfer-decoded, condition-read, call-read, constant-read, variable-read, count-read, print-read}
+use Rattle.operands.proofs.OperandsDecoding.{decode-end, decode-low, decode-high, decode-last, decode-fail, exact-yes, exact-no}
 use Rattle.marks.specs.Marks.{next_cell, met, marks_from, marks, undamaged, called, calls_in}
-use Rattle.marks.specs.Formats.{format_of_kind, format_of, end_of, called_as, ticked, Reads}
+use Rattle.marks.specs.Formats.{format_of_kind, format_of, mark_end, end_of, called_as, called_by, ticked, Reads}
 
 -- ── an instruction before the last two cells ────────────────────────────────────────────────────
 
--- Code that starts at cell q, and whose byte is b: it ends further on and before the last cell, and it calls the letter of the byte, if that is one.
-pub record Goes (u q b : ℕ) (i : Instruction) : Type 0 where
+-- Code that starts at cell q, which holds d: it ends further on and before the last cell, and it calls what the cell calls.
+pub record Goes (u q : ℕ) (d : Due) (i : Instruction) : Type 0 where
   pub further : q < next_cell i q
   pub before : next_cell i q < u
-  pub letter : (r : List ℕ) → called i r ≡ called_as b r
+  pub letter : (r : List ℕ) → called i r ≡ called_by d r
 
 -- what decodes there is damage, or such code
-unfoldable pub Whole : ℕ → ℕ → ℕ → Decoded → Type 0
-Whole u q b last = ⊥
-Whole u q b damaged = Unit {0}
-Whole u q b (code i) = Goes u q b i
+unfoldable pub Whole : ℕ → ℕ → Due → Decoded → Type 0
+Whole u q d last = ⊥
+Whole u q d damaged = Unit {0}
+Whole u q d (code i) = Goes u q d i
 
-module _ (u q b : ℕ) where
-  whole-damaged : Whole u q b damaged
+module _ (u q : ℕ) (d : Due) where
+  whole-damaged : Whole u q d damaged
   unfolding Whole
   whole-damaged = tt
 
-  whole_code : (i : Instruction) → Goes u q b i → Whole u q b (code i)
+  whole_code : (i : Instruction) → Goes u q d i → Whole u q d (code i)
   unfolding Whole
   whole_code i h = h
 
-  whole-cond : (t : Bool) (x y : Decoded) → Whole u q b x → Whole u q b y → Whole u q b (cond t x y)
-  whole-cond true x y h k = h
-  whole-cond false x y h k = k
+  -- what follows of a reading
+  whole-from : {A : Type 0} (o : Option A) (k : A → Decoded) → ((x : A) → o ≡ Some x → Whole u q d (k x)) → Whole u q d (decoded_from o k)
+  whole-from None k h = whole-damaged
+  whole-from (Some x) k h = h x refl
 
-  -- with n cells of its own before the last two
-  whole_room : (n : ℕ) (d : Decoded) → (n ≤ u → Whole u q b d) → Whole u q b (cond (ltb u n) damaged d)
-  whole_room n d h = by-ltb u n (λ t. Whole u q b (cond t damaged d)) (λ _. whole-damaged) h
+  whole-cond : (t : Bool) (x : Decoded) → Whole u q d x → Whole u q d (cond t x damaged)
+  whole-cond true x h = h
+  whole-cond false x h = whole-damaged
 
-  -- with a number y in its second cell, which is 0 where that cell is damaged
-  whole-second : (y : ℕ) (d : Decoded) → (q + 3 ≤ u → Whole u q b d) → Whole u q b (cond (eqb (cond (ltb u (q + 3)) 0 y) 0) damaged d)
-  whole-second y d h =
-      by-ltb u (q + 3) (λ t. Whole u q b (cond (eqb (cond t 0 y) 0) damaged d)) (λ _. whole-damaged)
-      (λ k. whole-cond (eqb y 0) damaged d whole-damaged (h k))
+-- a byte that is no letter's
+module _ (u q b : ℕ) (quiet : is_letter b ≡ false) where
+  silent : (r : List ℕ) → r ≡ called_as b r
+  silent r = rw quiet
 
-  -- a byte that is no letter's
-  module _ (quiet : is_letter b ≡ false) where
-    silent : (r : List ℕ) → r ≡ called_as b r
-    silent r = rw quiet
+  whole-operate : (o : Operation) (n : ℕ) → q < n → n < u → Whole u q (Mark b) (code (operate_at o n))
+  whole-operate o n h k = whole_code u q (Mark b) (operate_at o n) (record { further = h; before = k; letter = silent })
 
-    whole-operate : (o : Operation) (n : ℕ) → q < n → n < u → Whole u q b (code (operate_at o n))
-    whole-operate o n h k = whole_code (operate_at o n) (record { further = h; before = k; letter = silent })
+  whole-test : (p : Predicate) (n f : ℕ) → q < n → n < u → Whole u q (Mark b) (code (test_at p n f))
+  whole-test p n f h k = whole_code u q (Mark b) (test_at p n f) (record { further = h; before = k; letter = silent })
 
-    whole-test : (p : Predicate) (n f : ℕ) → q < n → n < u → Whole u q b (code (test_at p n f))
-    whole-test p n f h k = whole_code (test_at p n f) (record { further = h; before = k; letter = silent })
+-- a mark of two cells ends before the last one
+second-early : (t : Table) (q : ℕ) (z : ℤ) → second_cell t q ≡ Some z → q + 3 ≤ t.used
+unfolding second_cell
+second-early t q z e = by-ltb t.used (q + 3) (λ u. cond u None (Some (cell t (q + 1))) ≡ Some z → q + 3 ≤ t.used) (λ _ i. none-some i) (λ h _. h) e
+
+within-early : (l m : ℕ) (t : Table) (q n : ℕ) → second_at l m t q ≡ Some n → q + 3 ≤ t.used
+unfolding second_at
+within-early l m t q n e = go (second_cell t q) refl e
+  where
+    go : (o : Option ℤ) → second_cell t q ≡ o → option_and_then (λ z. bounded_of l m z) o ≡ Some n → q + 3 ≤ t.used
+    go None s i = none-some i
+    go (Some z) s i = second-early t q z s
+
+-- and so does a counter
+counter-early : (t : Table) (q : ℕ) (x : Counter) → counter_at t q ≡ Some x → q + 5 ≤ t.used
+unfolding counter_at
+counter-early t q x e = go _ e
+  where
+    go : (o : Option Counter) → cond (ltb t.used (q + 5)) None o ≡ Some x → q + 5 ≤ t.used
+    go o = by-ltb t.used (q + 5) (λ u. cond u None o ≡ Some x → q + 5 ≤ t.used) (λ _ i. none-some i) (λ h _. h)
 
 -- ── a byte's kind ───────────────────────────────────────────────────────────────────────────────
 
@@ -137,115 +159,94 @@ kind-call b a e =
 
 -- ── every instruction before the last two cells ─────────────────────────────────────────────────
 
-module _ (c : List ℤ) (base end q : ℕ) (first : code_start ≤ q) (early : q + 2 ≤ end) (few : end ≤ max_cells) where
+module _ (c : List ℤ) (p : Code) (q : ℕ) (first : code_start ≤ q) (early : q + 2 ≤ p.end) (few : p.end ≤ max_cells) where
   abbrev t : Table
-  t = table_from c base end
+  t = table_in c p
 
-  whole-mark : (b : ℕ) (k : Kind) → kind b ≡ k → Whole end q b (mark t q k)
-  unfolding mark exit_of digit_at counter_at print_at
+  whole-mark : (b : ℕ) (k : Kind) → kind b ≡ k → Whole p.end q (Mark b) (mark t q k)
+  unfolding mark
   whole-mark b (is_operator o) e =
       let h : is_letter b ≡ false = sym (kind-letter b) ∙ ap is_call_kind e in
-      whole-operate end q b h (operator o) (suc q) (omega arith) (omega arith)
+      whole-operate p.end q b h (operator o) (suc q) (omega arith) (omega arith)
   whole-mark b (is_variable a) e =
       let h : is_letter b ≡ false = sym (kind-letter b) ∙ ap is_call_kind e in
-      subst (Whole end q b) (sym (variable-read t q a))
-      (whole-second end q b _ _ (λ k. whole-operate end q b h _ (q + 2) (omega arith) (omega arith)))
+      subst (Whole p.end q (Mark b)) (sym (variable-read t q a))
+      (whole-from p.end q (Mark b) (digit_at t q) _ (λ d i. whole-operate p.end q b h _ (q + 2) (omega arith) (omega (arith, within-early _ _ t q d i))))
   whole-mark b is_constant e =
       let h : is_letter b ≡ false = sym (kind-letter b) ∙ ap is_call_kind e in
-      subst (Whole end q b) (sym (constant-read t q))
-      (whole_room end q b (q + 3) _ (λ k. whole-cond end q b (is_value (cell t (suc q))) _ damaged
-      (whole-operate end q b h _ (q + 2) (omega arith) (omega arith)) (whole-damaged end q b)))
+      subst (Whole p.end q (Mark b)) (sym (constant-read t q))
+      (whole-from p.end q (Mark b) (second_cell t q) _ (λ z i. whole-cond p.end q (Mark b) (is_value z) _
+      (whole-operate p.end q b h _ (q + 2) (omega arith) (omega (arith, second-early t q z i)))))
   whole-mark b (is_condition g) e =
       let h : is_letter b ≡ false = sym (kind-letter b) ∙ ap is_call_kind e in
-      subst (Whole end q b) (sym (condition-read t q g))
-      (whole-second end q b _ _ (λ k. whole-test end q b h _ (q + 2) _ (omega arith) (omega arith)))
+      subst (Whole p.end q (Mark b)) (sym (condition-read t q g))
+      (whole-from p.end q (Mark b) (exit_of t q) _ (λ f i. whole-test p.end q b h _ (q + 2) f (omega arith) (omega (arith, within-early _ _ t q f i))))
   whole-mark b (is_call a) e =
       let h = kind-call b a e in
-      subst (Whole end q b) (sym (call-read t q a))
-      (whole-second end q b _ _ (λ k. whole_code end q b (call_at a (q + 2) (exit_of t q))
-      (record { further = omega arith; before = omega arith; letter = λ r. rw (h.0, h.1) })))
+      subst (Whole p.end q (Mark b)) (sym (call-read t q a))
+      (whole-from p.end q (Mark b) (exit_of t q) _ (λ f i. whole_code p.end q (Mark b) (call_at a (q + 2) f)
+      (record { further = omega arith; before = omega (arith, within-early _ _ t q f i); letter = λ r. rw (h.0, h.1) })))
   whole-mark b is_counter e =
       let h : is_letter b ≡ false = sym (kind-letter b) ∙ ap is_call_kind e in
-      let n = limit_of (cell t (suc q)) in
-      let o = order_of (cell t (suc (suc q))) in
-      let f = target_of (cell t (suc (suc (suc q)))) end in
-      subst (Whole end q b) (sym (count-read t q))
-      (whole_room end q b (q + 5) _ (λ k. whole-cond end q b (eqb n 0) damaged _ (whole-damaged end q b)
-      (whole-cond end q b (eqb o max_counters) damaged _ (whole-damaged end q b)
-      (whole-cond end q b (eqb f 0) damaged _ (whole-damaged end q b) (whole-test end q b h (counter (n - 1) o) (q + 4) f (omega arith) (omega arith))))))
+      subst (Whole p.end q (Mark b)) (sym (count-read t q))
+      (whole-from p.end q (Mark b) (counter_at t q) _ (λ x i. whole-test p.end q b h _ (q + 4) x.exit (omega arith) (omega (arith, counter-early t q x i))))
   whole-mark b is_print e =
       let h : is_letter b ≡ false = sym (kind-letter b) ∙ ap is_call_kind e in
-      let n = extent_of (cell t (suc q)) in
-      let i = base + q + 1 in
-      subst (Whole end q b) (sym (print-read c base end q i refl few))
-      (whole_room end q b (q + 3) _ (λ _. whole_room end q b (q + 3 + n) _ (λ k. whole-cond end q b (printable c i n) _ damaged
-      (whole-operate end q b h (print (prints_from c i n)) (q + 2 + n) (omega arith) (omega arith)) (whole-damaged end q b))))
-  whole-mark b is_none e = whole-damaged end q b
+      subst (Whole p.end q (Mark b)) (sym (print-read c p q few))
+      (whole-from p.end q (Mark b) (print_at c p q) _ (λ n i. whole-operate p.end q b h _ (q + 2 + n) (omega arith) (omega (arith, (print-good c p q n i).early))))
+  whole-mark b is_none e = whole-damaged p.end q (Mark b)
 
   -- what decodes there
-  pub whole-inside : Whole end q (byte_at t q) (decode t q)
+  pub whole-inside : Whole p.end q (byte_at t q) (decode t q)
   whole-inside = go (byte_at t q) refl
     where
-      other : (n : ℕ) → (u : Bool) → eqb (suc n) transfer_byte ≡ u → byte_at t q ≡ suc n → Whole end q (suc n) (decode t q)
-      other n true z e =
-          let k : suc n ≡ transfer_byte = eqb-true (suc n) transfer_byte z in
-          let h : is_letter (suc n) ≡ false = ap is_letter k in
-          let z = target_of (cell t q) end in
-          subst (Whole end q (suc n)) (sym (transfer-decoded t q (e ∙ k)))
-          (whole-cond end q (suc n) (eqb z 0) damaged _ (whole-damaged end q (suc n))
-          (whole_code end q (suc n) (transfer z) (record { further = omega arith; before = omega arith; letter = silent end q (suc n) h })))
-      other n false z e =
-          subst (Whole end q (suc n)) (sym (mark-decoded t q n (eqb-false (suc n) transfer_byte z) e)) (whole-mark (suc n) (kind (suc n)) refl)
+      go : (d : Due) → byte_at t q ≡ d → Whole p.end q d (decode t q)
+      go End e = subst (Whole p.end q End) (sym (decode-end t q first early e)) (whole-damaged p.end q End)
+      go (Mark b) e = subst (Whole p.end q (Mark b)) (sym (mark-decoded t q b e)) (whole-mark b (kind b) refl)
+      go Transfer e =
+          subst (Whole p.end q Transfer) (sym (transfer-decoded t q e))
+          (whole-from p.end q Transfer (target_of (cell t q) t.used) _ (λ n i. whole_code p.end q Transfer (transfer n)
+          (record { further = omega arith; before = omega arith; letter = λ r. refl })))
 
-      go : (b : ℕ) → byte_at t q ≡ b → Whole end q b (decode t q)
-      go zero e = subst (Whole end q 0) (sym (decode-zero t q first early e)) (whole-damaged end q 0)
-      go (suc n) e = other n (eqb (suc n) transfer_byte) refl e
+  -- ── where it ends ─────────────────────────────────────────────────────────────────────────────
 
-  -- ── by the instruction's format ───────────────────────────────────────────────────────────────
+  end-from : {A : Type 0} (o : Option A) (i : A → Instruction) (n : A → ℕ) → ((x : A) → next_cell (i x) q ≡ n x)
+      → end_of (decoded_from o (λ x. code (i x))) q ≡ option_map n o
+  end-from None i n h = refl
+  end-from (Some x) i n h = ap Some (h x)
 
-  -- where the instruction at cell q ends, of what the code reads
-  abbrev pub format_end : Format → ℕ
-  format_end Bare = q + 1
-  format_end Digit = cond (eqb (digit_at t q) 0) 0 (q + 2)
-  format_end Value = end_of (mark t q is_constant) q
-  format_end Exit = cond (eqb (exit_of t q) 0) 0 (q + 2)
-  format_end Counter = end_of (mark t q is_counter) q
-  format_end Bytes = end_of (mark t q is_print) q
-  format_end Transfer = cond (eqb (target_of (cell t q) end) 0) 0 (q + 1)
-  format_end NoCode = 0
+  -- a mark, by its format
+  kind-end : (k : Kind) → end_of (mark t q k) q ≡ mark_end c p q (format_of_kind k)
+  unfolding mark mark_end
+  kind-end (is_operator o) = let e : suc q ≡ q + 1 = omega arith in ap Some e
+  kind-end (is_variable a) = ap (λ d. end_of d q) (variable-read t q a) ∙ end-from (digit_at t q) _ _ (λ _. refl)
+  kind-end is_constant = ap (λ d. end_of d q) (constant-read t q) ∙ go (second_cell t q)
+    where
+      pick : (u : Bool) (i : Instruction) → next_cell i q ≡ q + 2 → end_of (cond u (code i) damaged) q ≡ cond u (Some (q + 2)) None
+      pick true i e = ap Some e
+      pick false i e = refl
 
-  end-cond : (u : Bool) (i : Instruction) (n : ℕ) → next_cell i q ≡ n → end_of (cond u damaged (code i)) q ≡ cond u 0 n
-  end-cond true i n e = refl
-  end-cond false i n e = e
-
-  kind-end : (k : Kind) → end_of (mark t q k) q ≡ format_end (format_of_kind k)
-  unfolding mark
-  kind-end (is_operator o) = omega arith
-  kind-end (is_variable a) = ap (λ d. end_of d q) (variable-read t q a) ∙ end-cond (eqb (digit_at t q) 0) _ (q + 2) refl
-  kind-end is_constant = refl
-  kind-end (is_condition g) = ap (λ d. end_of d q) (condition-read t q g) ∙ end-cond (eqb (exit_of t q) 0) _ (q + 2) refl
-  kind-end (is_call a) = ap (λ d. end_of d q) (call-read t q a) ∙ end-cond (eqb (exit_of t q) 0) _ (q + 2) refl
-  kind-end is_counter = refl
-  kind-end is_print = refl
+      go : (o : Option ℤ) → end_of (decoded_from o (λ z. cond (is_value z) (code (operate_at (constant z) (q + 2))) damaged)) q
+          ≡ option_and_then (λ z. cond (is_value z) (Some (q + 2)) None) o
+      go None = refl
+      go (Some z) = pick (is_value z) (operate_at (constant z) (q + 2)) refl
+  kind-end (is_condition g) = ap (λ d. end_of d q) (condition-read t q g) ∙ end-from (exit_of t q) _ _ (λ _. refl)
+  kind-end (is_call a) = ap (λ d. end_of d q) (call-read t q a) ∙ end-from (exit_of t q) _ _ (λ _. refl)
+  kind-end is_counter = ap (λ d. end_of d q) (count-read t q) ∙ end-from (counter_at t q) _ _ (λ _. refl)
+  kind-end is_print = ap (λ d. end_of d q) (print-read c p q few) ∙ end-from (print_at c p q) _ _ (λ _. refl)
   kind-end is_none = refl
 
-  pub format-end : end_of (decode t q) q ≡ format_end (format_of (byte_at t q))
+  pub mark-ends : (b : ℕ) → byte_at t q ≡ Mark b → mark_end c p q (format_of b) ≡ end_of (decode t q) q
   unfolding format_of
-  format-end = go (byte_at t q) refl
-    where
-      other : (n : ℕ) (u : Bool) → eqb (suc n) transfer_byte ≡ u → byte_at t q ≡ suc n
-          → end_of (decode t q) q ≡ format_end (cond u Transfer (format_of_kind (kind (suc n))))
-      other n true z e =
-          let k : suc n ≡ transfer_byte = eqb-true (suc n) transfer_byte z in
-          ap (λ d. end_of d q) (transfer-decoded t q (e ∙ k)) ∙ end-cond (eqb (target_of (cell t q) end) 0) _ (q + 1) (omega arith)
-      other n false z e = ap (λ d. end_of d q) (mark-decoded t q n (eqb-false (suc n) transfer_byte z) e) ∙ kind-end (kind (suc n))
+  mark-ends b e = sym (ap (λ d. end_of d q) (mark-decoded t q b e) ∙ kind-end (kind b))
 
-      go : (b : ℕ) → byte_at t q ≡ b → end_of (decode t q) q ≡ format_end (cond (eqb b transfer_byte) Transfer (format_of_kind (kind b)))
-      go zero e = ap (λ d. end_of d q) (decode-zero t q first early e) ∙ none
-        where
-          none : 0 ≡ format_end (format_of_kind (kind 0))
-          none = unfold kind in refl
-      go (suc n) e = other n (eqb (suc n) transfer_byte) refl e
+  -- a transfer
+  pub transfer-ends : byte_at t q ≡ Transfer → option_map (λ _. q + 1) (target_of (cell t q) t.used) ≡ end_of (decode t q) q
+  transfer-ends e = sym (ap (λ d. end_of d q) (transfer-decoded t q e) ∙ end-from (target_of (cell t q) t.used) _ _ (λ _. omega arith))
+
+  -- neither
+  pub none-ends : byte_at t q ≡ End → None ≡ end_of (decode t q) q
+  none-ends e = sym (ap (λ d. end_of d q) (decode-end t q first early e))
 
 -- ── any cell ────────────────────────────────────────────────────────────────────────────────────
 
@@ -272,12 +273,17 @@ as-letters b r h = go (is_letter b) refl
     go true e = (letter-lt b e, h)
     go false e = h
 
-whole-shaped : (u q b : ℕ) (d : Decoded) → Whole u q b d → Shaped u q d
+by-letters : (d : Due) (r : List ℕ) → Letters r → Letters (called_by d r)
+by-letters (Mark b) r h = as-letters b r h
+by-letters Transfer r h = h
+by-letters End r h = h
+
+whole-shaped : (u q : ℕ) (b : Due) (d : Decoded) → Whole u q b d → Shaped u q d
 unfolding Whole Shaped
 whole-shaped u q b last w = absurd w
 whole-shaped u q b damaged w = tt
 whole-shaped u q b (code i) w =
-    record { further = w.further; within = omega (arith, w.before); letters = λ r h. subst Letters (sym (w.letter r)) (as-letters b r h) }
+    record { further = w.further; within = omega (arith, w.before); letters = λ r h. subst Letters (sym (w.letter r)) (by-letters b r h) }
 
 shaped-exactly : (u q n : ℕ) (z : ℤ) (d : Decoded) → Shaped u q d → Shaped u q (exactly z n d)
 unfolding Shaped exactly natural sound
@@ -304,23 +310,6 @@ shaped-code : (u q : ℕ) (i : Instruction) → Shaped u q (code i) → Onward u
 unfolding Shaped
 shaped-code u q i h = h
 
--- ── a byte ──────────────────────────────────────────────────────────────────────────────────────
-
-byte-of-le : (z : ℤ) → byte_of z ≤ transfer_byte
-unfolding byte_of
-byte-of-le (pos zero) = omega arith
-byte-of-le (pos (suc n)) = omega arith
-byte-of-le (negsuc n) = let h = negated-le constant_code (negsuc n) in omega (arith, h)
-
--- what is read at a cell is a byte
-pub byte_le : (t : Table) (q : ℕ) → byte_at t q ≤ transfer_byte
-unfolding byte_at
-byte_le t q = either (ltb q code_start) _ (either (ltb t.used q) _ (either (ltb (t.used - q) 2) _ (byte-of-le (cell t q))))
-  where
-    either : (u : Bool) (n : ℕ) → n ≤ transfer_byte → cond u end_byte n ≤ transfer_byte
-    either true n h = omega arith
-    either false n h = h
-
 -- ── a reading so far ────────────────────────────────────────────────────────────────────────────
 
 -- The reading of a table has come to the cell `at`, before the last, and the calls hold what it ticked: what is left is what is met from there.
@@ -344,7 +333,7 @@ module _ (c : List ℤ) (base end : ℕ) (few : end ≤ max_cells) where
       (λ h. by-ltb end q (λ _. Shaped end q (decode table q)) (λ k. subst (Shaped end q) (sym (decode-high table q h k)) (shaped-damaged end q))
       (λ k. by-ltb q end (λ _. Shaped end q (decode table q))
       (λ m. by-ltb (q + 1) end (λ _. Shaped end q (decode table q))
-      (λ n. whole-shaped end q (byte_at table q) (decode table q) (whole-inside c base end q h (omega arith) few))
+      (λ n. whole-shaped end q (byte_at table q) (decode table q) (whole-inside c (record { base = base; end = end }) q h (omega arith) few))
       (λ n. subst (Shaped end q) (sym (decode-fail table q h (omega arith)))
       (shaped-exactly end q 0 (cell table q) (code fail) (shaped-fail end q (omega arith)))))
       (λ m. subst (Shaped end q) (sym (decode-last table q h (omega arith))) (shaped-exactly end q 1 (cell table q) last (shaped-last end q)))))
@@ -407,59 +396,59 @@ module _ (c : List ℤ) (base end : ℕ) (few : end ≤ max_cells) where
     reading-damaged e = record { sound = sym (left-sound damaged e); calls = sym (left-calls damaged e) }
 
     -- an instruction before the last two cells, by where it ends
-    module _ (few' : at + 2 ≤ end) (n : ℕ) (ended : n ≡ end_of (decode table at) at) where
-      pub reading-broken : n ≡ 0 → Reads table before from false now
+    module _ (few' : at + 2 ≤ end) where
+      pub reading-broken : None ≡ end_of (decode table at) at → Reads table before from false now
       unfolding Whole
-      reading-broken z =
-          go (decode table at) refl (whole-inside c base end at r.low few' few)
+      reading-broken ended = go (decode table at) refl (whole-inside c (record { base = base; end = end }) at r.low few' few)
         where
           go : (d : Decoded) → decode table at ≡ d → Whole end at (byte_at table at) d → Reads table before from false now
           go last e w = absurd w
           go damaged e w = reading-damaged e
-          go (code i) e w =
-              let k : next_cell i at ≡ 0 = sym (ap (λ d. end_of d at) e) ∙ sym ended ∙ z in
-              absurd (omega (arith, w.further, k))
+          go (code i) e w = none-some (ended ∙ ap (λ d. end_of d at) e)
 
-      -- it ends further on
-      pub reading-further : (n ≡ 0 → ⊥) → at < n
-      unfolding Whole
-      reading-further nz = go (decode table at) refl (whole-inside c base end at r.low few' few)
-        where
-          go : (d : Decoded) → decode table at ≡ d → Whole end at (byte_at table at) d → at < n
-          go last e w = absurd w
-          go damaged e w = absurd (nz (ended ∙ ap (λ d. end_of d at) e))
-          go (code i) e w =
-              let k : next_cell i at ≡ n = sym (ap (λ d. end_of d at) e) ∙ sym ended in
-              omega (arith, w.further, k)
+      module _ (n : ℕ) (ended : Some n ≡ end_of (decode table at) at) where
+        -- it ends further on
+        pub reading-further : at < n
+        unfolding Whole
+        reading-further = go (decode table at) refl (whole-inside c (record { base = base; end = end }) at r.low few' few)
+          where
+            go : (d : Decoded) → decode table at ≡ d → Whole end at (byte_at table at) d → at < n
+            go last e w = absurd w
+            go damaged e w = none-some (sym (ended ∙ ap (λ d. end_of d at) e))
+            go (code i) e w =
+                let k : n ≡ next_cell i at = some-same (ended ∙ ap (λ d. end_of d at) e) in
+                omega (arith, w.further, k)
 
-      pub reading-more : (m : List ℕ) → (n ≡ 0 → ⊥) → m ≡ ticked now from (called_as (byte_at table at) []) → Reading table from before m n
-      unfolding Whole undamaged calls_in
-      reading-more m nz t = go (decode table at) refl (whole-inside c base end at r.low few' few)
-        where
-          split : (b : ℕ) (l : List ℕ) → ticked now from (called_as b l) ≡ ticked (ticked now from (called_as b [])) from l
-          split b l = pick (is_letter b)
-            where
-              pick : (u : Bool) → ticked now from (cond u (letter_index b ∷ l) l) ≡ ticked (ticked now from (cond u (letter_index b ∷ []) [])) from l
-              pick true = refl
-              pick false = refl
+        pub reading-more : (m : List ℕ) → m ≡ ticked now from (called_by (byte_at table at) []) → Reading table from before m n
+        unfolding Whole undamaged calls_in
+        reading-more m t = go (decode table at) refl (whole-inside c (record { base = base; end = end }) at r.low few' few)
+          where
+            split : (d : Due) (l : List ℕ) → ticked now from (called_by d l) ≡ ticked (ticked now from (called_by d [])) from l
+            split Transfer l = refl
+            split End l = refl
+            split (Mark b) l = pick (is_letter b)
+              where
+                pick : (u : Bool) → ticked now from (cond u (letter_index b ∷ l) l) ≡ ticked (ticked now from (cond u (letter_index b ∷ []) [])) from l
+                pick true = refl
+                pick false = refl
 
-          go : (d : Decoded) → decode table at ≡ d → Whole end at (byte_at table at) d → Reading table from before m n
-          go last e w = absurd w
-          go damaged e w = absurd (nz (ended ∙ ap (λ d. end_of d at) e))
-          go (code i) e w =
-              let k : next_cell i at ≡ n = sym (ap (λ d. end_of d at) e) ∙ sym ended in
-              let l = calls_in (marks_from max_cells table (next_cell i at)) in
-              record {
-                low = omega (arith, w.further, k, r.low);
-                high = omega (arith, w.before, k);
-                sound = left-sound (code i) e ∙ ap (λ q. undamaged (marks_from max_cells table q)) k;
-                calls =
-                    left-calls (code i) e
-                    ∙ ap (λ x. ticked now from x) (w.letter l)
-                    ∙ split (byte_at table at) l
-                    ∙ ap (λ x. ticked x from l) (sym t)
-                    ∙ ap (λ q. ticked m from (calls_in (marks_from max_cells table q))) k;
-              }
+            go : (d : Decoded) → decode table at ≡ d → Whole end at (byte_at table at) d → Reading table from before m n
+            go last e w = absurd w
+            go damaged e w = none-some (sym (ended ∙ ap (λ d. end_of d at) e))
+            go (code i) e w =
+                let k : next_cell i at ≡ n = sym (some-same (ended ∙ ap (λ d. end_of d at) e)) in
+                let l = calls_in (marks_from max_cells table (next_cell i at)) in
+                record {
+                  low = omega (arith, w.further, k, r.low);
+                  high = omega (arith, w.before, k);
+                  sound = left-sound (code i) e ∙ ap (λ q. undamaged (marks_from max_cells table q)) k;
+                  calls =
+                      left-calls (code i) e
+                      ∙ ap (λ x. ticked now from x) (w.letter l)
+                      ∙ split (byte_at table at) l
+                      ∙ ap (λ x. ticked x from l) (sym t)
+                      ∙ ap (λ q. ticked m from (calls_in (marks_from max_cells table q))) k;
+                }
 
     -- the last `)` and the last cell
     module _ (near : at + 1 ≡ end) where
@@ -476,14 +465,25 @@ module _ (c : List ℤ) (base end : ℕ) (few : end ≤ max_cells) where
             let s = marks-step (suc at) (omega (arith, r.low)) ∙ ap (λ x. met x (λ i. marks_from max_cells table (next_cell i (suc at)))) e in
             (left-sound (code fail) f ∙ ap undamaged s, left-calls (code fail) f ∙ ap (λ l. ticked now from (calls_in l)) s)
 
-        pub reading-unended : (cell table (suc at) ≡ pos 1 → ⊥) → Reads table before from false now
+        reading-unended : (cell table (suc at) ≡ pos 1 → ⊥) → Reads table before from false now
         unfolding undamaged calls_in
         reading-unended h =
             let e = after-fail damaged (decode-last table (suc at) (omega (arith, r.low)) (omega arith) ∙ exact-no (cell table (suc at)) 1 last h) in
             record { sound = sym e.0; calls = sym e.1 }
 
-        pub reading-done : cell table (suc at) ≡ pos 1 → Reads table before from true now
+        reading-done : cell table (suc at) ≡ pos 1 → Reads table before from true now
         unfolding undamaged calls_in
         reading-done h =
             let e = after-fail last (decode-last table (suc at) (omega (arith, r.low)) (omega arith) ∙ exact-yes (cell table (suc at)) 1 last h) in
             record { sound = sym e.0; calls = sym e.1 }
+
+        -- the test of the last cell
+        pub reading-tested : (z : ℤ) → to_z w32 (of_z w32 z) ≡ z → z ≡ cell table (at + 1) → Reads table before from (eqb (of_z w32 z) 1) now
+        reading-tested z b e = go (eqb (of_z w32 z) 1) refl
+          where
+            last-cell : z ≡ cell table (suc at)
+            last-cell = e ∙ ap (λ (q : ℕ). cell table q) (add-one at)
+
+            go : (u : Bool) → eqb (of_z w32 z) 1 ≡ u → Reads table before from u now
+            go true i = reading-done (sym last-cell ∙ sym b ∙ ap (to_z w32) (eqb-true (of_z w32 z) 1 i))
+            go false i = reading-unended (λ h. eqb-false (of_z w32 z) 1 i (ap (of_z w32) (last-cell ∙ h)))

@@ -2,36 +2,33 @@
 #![tactic(auto)]
 
 ghost use Rattle.std.specs.Prelude.{◌≡◌, []};
-ghost use Rattle.language.specs.Tables.{table_from};
+ghost use Rattle.language.specs.Machine.{decode};
+ghost use Rattle.operands.specs.Operands.{table_in};
 ghost use Rattle.operands.specs.Ready.{Inside};
-ghost use Rattle.language.specs.Machine.{is_constant, is_counter, is_print, mark, decode};
-ghost use Rattle.marks.specs.Formats.{format_of, end_of, called_as, ticked, Row, Standing, Reads, Formatted};
+ghost use Rattle.marks.specs.Formats.{format_of, end_of, mark_end, called_by, ticked, Row, Standing, Reads, Found};
 
 use language::{CONSTANT_CODE, LETTERS, PRINT_CODE, STORE_CELLS, Table};
-use operands::cells::{MOST_LIMIT, bounded, byte_at, digit_at, exit_of, negated, prints, target};
+use operands::cells::{Code, Due};
 use validation::is_value;
 
 // The calls of all letters by all letters: the place 26 a + b is 1 where a calls b.
 pub const CALLS: usize = LETTERS * LETTERS;
 
-// A counter's last order.
-const LAST_ORDER: usize = Table::COUNTERS - 1;
-
-// An instruction's format, of document 01's list of marks and their cells: "code", "code, digit", "code, the value", "code, false", a counter's "-36, -n,
-// its order .., false", a print's "code, length, bytes", a transfer; or a byte that is no code.
-#[derive(Clone, Copy)]
-pub enum Format {
+// A mark's format, of document 01's list of marks and their cells: "code", "code, digit", "code, the value", "code, false", a counter's "-36, -n,
+// its order .., false", a print's "code, length, bytes"; or none, where a byte is no code.
+#[derive(Clone, Copy, Debug, PartialEq, Eq)]
+enum Format {
     Bare,
     Digit,
     Value,
     Exit,
     Counter,
     Bytes,
-    Transfer,
     NoCode,
 }
 
-// The format of the instruction whose code is this byte.
+// The format of the mark whose code is this byte.
+#[tactic(auto, unfolding(crate::specs::Formats::format_of, language::specs::Machine::kind))]
 fn format_of(b: u8) -> Format
     ensures { result ≡ format_of b }
 {
@@ -42,138 +39,90 @@ fn format_of(b: u8) -> Format
         b'N' | b'0' | b'J' | b'a'..=b'z' => Format::Exit,
         b'$' => Format::Counter,
         PRINT_CODE => Format::Bytes,
-        255 => Format::Transfer,
         _ => Format::NoCode,
     }
 }
 
-// The cell after a constant, or 0 where it is damaged.
-fn value_end(cells: &[i32; STORE_CELLS], base: usize, end: usize, at: usize) -> usize
-    requires { Inside base end at }
-    ensures { result ≡ end_of (mark (table_from cells.now base end) at is_constant) at }
+// The cell after the mark of that format at the due cell.
+#[tactic(auto, unfolding(crate::specs::Formats::mark_end))]
+fn mark_end(cells: &[i32; STORE_CELLS], code: Code, at: usize, format: Format) -> Option<usize>
+    requires { Inside code at }
+    ensures { result ≡ mark_end cells.now code at format }
 {
-    if end < at + 3 {
-        return 0;
-    }
-    if is_value(cells[base + at]) {
-        at + 2 // code and value
-    } else {
-        0
-    }
-}
-
-// The cell after a counter, or 0.
-fn counter_end(cells: &[i32; STORE_CELLS], base: usize, end: usize, at: usize) -> usize
-    requires { Inside base end at }
-    ensures { result ≡ end_of (mark (table_from cells.now base end) at is_counter) at }
-{
-    if end < at + 5 {
-        return 0;
-    }
-    if negated(cells[base + at], MOST_LIMIT) == 0 {
-        return 0;
-    }
-    if bounded(cells[base + at + 1], LAST_ORDER, Table::COUNTERS) == Table::COUNTERS {
-        return 0;
-    }
-    if target(cells[base + at + 2], end) == 0 {
-        return 0;
-    }
-    at + 4 // code, number, order and false
-}
-
-// The cell after a print, or 0.
-fn print_end(cells: &[i32; STORE_CELLS], base: usize, end: usize, at: usize) -> usize
-    requires { Inside base end at }
-    ensures { result ≡ end_of (mark (table_from cells.now base end) at is_print) at }
-{
-    if end < at + 3 {
-        return 0;
-    }
-    let n = bounded(cells[base + at], Table::CELLS, Table::CELLS + 1);
-    if end < at + 3 + n {
-        return 0;
-    }
-    if prints(cells, base + at + 1, n) {
-        at + 2 + n
-    } else {
-        0
-    }
-}
-
-// The cell after the instruction of that format at the due cell, or 0 where a cell of it is damaged.
-fn next_cell(cells: &[i32; STORE_CELLS], base: usize, end: usize, at: usize, f: Format) -> usize
-    requires { Formatted cells.now base end at f }
-    ensures { result ≡ end_of (decode (table_from cells.now base end) at) at }
-{
-    match f {
-        Format::Bare => at + 1,
+    match format {
+        Format::Bare => Some(at + 1),
         Format::Digit => {
-            if digit_at(cells, base, end, at) == 0 {
-                return 0;
-            }
-            at + 2
+            code.digit_at(cells, at)?;
+            Some(at + 2)
         }
-        Format::Value => value_end(cells, base, end, at),
+        Format::Value => {
+            let value = code.second_cell(cells, at)?;
+            if is_value(value) {
+                Some(at + 2) // code and value
+            } else {
+                None
+            }
+        }
         Format::Exit => {
-            if exit_of(cells, base, end, at) == 0 {
-                return 0;
-            }
-            at + 2
+            code.exit_of(cells, at)?;
+            Some(at + 2)
         }
-        Format::Counter => counter_end(cells, base, end, at),
-        Format::Bytes => print_end(cells, base, end, at),
-        Format::Transfer => {
-            if target(cells[base + at - 1], end) == 0 {
-                return 0;
-            }
-            at + 1 // one cell
+        Format::Counter => {
+            code.counter_at(cells, at)?;
+            Some(at + 4) // code, number, order and false
         }
-        Format::NoCode => 0,
+        Format::Bytes => {
+            let n = code.print_at(cells, at)?;
+            Some(at + 2 + n)
+        }
+        Format::NoCode => None,
     }
 }
 
-// The place of the letter whose byte this is, in the row of the calls that starts at `from`, becomes 1. A byte that is no letter's changes nothing.
-fn tick(calls: &mut [u8; CALLS], from: usize, b: u8)
-    requires { Row from }
-    ensures { calls.new ≡ ticked calls.old from (called_as b []) }
+// The cell after the instruction at the due cell, which holds `due`; none where a cell of it is damaged.
+fn next_cell(cells: &[i32; STORE_CELLS], code: Code, at: usize, due: Due) -> Option<usize>
+    requires { Found cells.now code at due }
+    ensures { result ≡ end_of (decode (table_in cells.now code) at) at }
 {
-    if b < b'a' {
-        return;
+    match due {
+        Due::Mark(b) => mark_end(cells, code, at, format_of(b)),
+        Due::Transfer => {
+            code.target(code.cell(cells, at))?;
+            Some(at + 1) // one cell
+        }
+        Due::End => None,
     }
-    if b'z' < b {
-        return;
-    }
-    calls[from + (b - b'a') as usize] = 1;
 }
 
-// Reads the table that stands in the cells from `base` on and has `end` used cells. The answer is whether no cell that is met is damaged; the letters
-// that it calls up to there are ticked in the row of the calls that starts at `from`.
-pub fn read(
-    cells: &[i32; STORE_CELLS],
-    base: usize,
-    end: usize,
-    calls: &mut [u8; CALLS],
-    from: usize,
-) -> bool
-    requires { Standing base end from }
-    ensures { Reads (table_from cells.now base end) calls.old from result calls.new }
+// The place of the letter that a due cell calls, in the row of the calls that starts at `from`, becomes 1. Where it calls none, nothing changes.
+fn tick(calls: &mut [u8; CALLS], from: usize, due: Due)
+    requires { Row from }
+    ensures { calls.new ≡ ticked calls.old from (called_by due []) }
+{
+    if let Due::Mark(b) = due
+        && b.is_ascii_lowercase()
+    {
+        calls[from + (b - b'a') as usize] = 1;
+    }
+}
+
+// Reads the table at `code`. The answer is whether no cell that is met is damaged; the letters that it calls up to there are ticked in the row of the
+// calls that starts at `from`.
+pub fn read(cells: &[i32; STORE_CELLS], code: Code, calls: &mut [u8; CALLS], from: usize) -> bool
+    requires { Standing code from }
+    ensures { Reads (table_in cells.now code) calls.old from result calls.new }
 {
     let mut at = Table::CODE_START;
-    while at + 1 < end {
-        let b = byte_at(cells, base, end, at) as u8;
-        let next = next_cell(cells, base, end, at, format_of(b));
-        if next == 0 {
+    while at + 1 < code.end {
+        let due = code.byte_at(cells, at);
+        let Some(next) = next_cell(cells, code, at, due) else {
             return false;
-        }
-        tick(calls, from, b);
+        };
+        tick(calls, from, due);
         at = next;
     }
-    if cells[base + at - 1] != 0 {
+    if code.cell(cells, at) != 0 {
         return false;
     }
-    if cells[base + at] != 1 {
-        return false;
-    }
-    true
+    code.cell(cells, at + 1) == 1
 }

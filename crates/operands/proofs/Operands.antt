@@ -1,199 +1,115 @@
 -- What the tests on a cell, a signed number, say of the definitions that go by its condition; and the bytes of a print.
 use mathlib.Core.Path.{◌≡◌, refl, sym, ap, ◌∙◌}
-use mathlib.Core.Bool.{Bool, true, false, cond, false≢true}
+use mathlib.Core.Bool.{true, false, false≢true}
 use mathlib.Core.List.{List}
 use Prim.Native.Nat.{ℕ, zero, suc, ◌+◌, ◌-◌, ◌<◌, ◌≤◌}
 use native.Mathlib.Omega.{arith}
-use lib.Dec.{T, ltb}
-use lib.IntN.{ℤ, pos, negsuc, neg_ℤ, nat_abs, ◌-ℤ◌}
+use lib.Dec.{T}
+use lib.IntN.{ℤ, pos, negsuc, nat_abs}
 use lib.ListN.{length, get_or}
 use lib.Signed.{lt_z, non_neg}
-use mir.Syntax.{w8, w32, w64}
-use mir.Val.{SFits, Fits}
-use borrow.Author.Tests.{lt-ltb, le-ltb, ltb-true, ltb-false, le-leb, lt-leb, eq-eqb, ne_eqb}
+use mir.Syntax.{w8}
+use mir.Val.{Fits}
+use Rattle.std.proofs.lemmas.Bool.Decides.{nat_tests}
+use Rattle.std.specs.Prelude.{Some, None, is_some, unwrap_or}
 use Rattle.language.specs.declared.Table.{Table}
-use Rattle.language.specs.Machine.{cell}
-use Rattle.language.specs.Syntax.{constant_code}
-use Rattle.operands.specs.Operands.{transfer_byte, target_of, exit_of, bounded_of, negated_of, byte_of, print_of, prints_from, printable}
-use Rattle.language.proofs.Tests.{by-ltb}
+use Rattle.language.specs.Limits.{max_counters, max_limit}
+use Rattle.language.specs.Layout.{code_start}
+use Rattle.operands.specs.declared.cells.Code.{Code}
+use Rattle.operands.specs.declared.cells.Counter.{Counter}
+use Rattle.operands.specs.declared.cells.Due.TheVariants.{Mark, Transfer}
+use Rattle.operands.specs.Operands.{bounded_of, exit_of, second_cell, second_at, negated_of, byte_of, holds_print_byte, prints_from, printable, counter_at, bytes_index, print_at}
+use Rattle.language.proofs.Tests.{first-true, second-true}
 
-wrong : {X : Type 0} → true ≡ false → X
-wrong e = absurd (false≢true (sym e))
+-- two readings of the same
+pub some-same : {A : Type 0} {a b : A} → Some a ≡ Some b → a ≡ b
+some-same {a = a} e = ap (λ o. unwrap_or o a) e
 
--- x as an unsigned number
-pub unsigned : (x : ℤ) (k : ℕ) → SFits w32 x → lt_z x (pos k) ≡ false → T (non_neg x) × Fits w64 (nat_abs x)
-unsigned (pos n) k f e = (tt, let h = f.sfits in record { fits = omega arith })
-unsigned (negsuc n) k f e = wrong e
+-- nothing that is read is no reading
+pub none-some : {X A : Type 0} {a : A} → None ≡ Some a → X
+none-some e = absurd (false≢true (ap (λ o. is_some o) e))
 
--- below the code
-pub target-low : (x : ℤ) (u : ℕ) → lt_z x (pos 2) ≡ true → 0 ≡ target_of x u
-unfolding target_of
-target-low (pos n) u e = simp e
-target-low (negsuc n) u e = refl
+-- ── a number within bounds ──────────────────────────────────────────────────────────────────────
 
--- after the used cells
-pub target-high : (x : ℤ) (u : ℕ) → lt_z x (pos 2) ≡ false → u < nat_abs x → 0 ≡ target_of x u
-unfolding target_of
-target-high (pos n) u e h = simp (e, lt-ltb u n h)
-target-high (negsuc n) u e h = refl
-
--- a cell of the code
-pub target-in : (x : ℤ) (u : ℕ) → lt_z x (pos 2) ≡ false → nat_abs x ≤ u → nat_abs x ≡ target_of x u
-unfolding target_of
-target-in (pos n) u e h = simp (e, le-ltb u n h)
-target-in (negsuc n) u e h = wrong e
-
--- no target is after the used cells
-pub target-le : (x : ℤ) (u : ℕ) → target_of x u ≤ u
-unfolding target_of
-target-le (pos n) u =
-    by-ltb n 2 (λ t. cond t 0 (cond (ltb u n) 0 n) ≤ u) (λ h. omega arith) (λ h. by-ltb u n (λ t. cond t 0 n ≤ u) (λ k. omega arith) (λ k. k))
-target-le (negsuc n) u = omega arith
-
--- nor is a false exit
-pub exit-le : (t : Table) (q : ℕ) → exit_of t q ≤ t.used
-unfolding exit_of
-exit-le t q = by-ltb t.used (q + 3) (λ b. cond b 0 (target_of (cell t (suc q)) t.used) ≤ t.used) (λ h. omega arith) (λ h. target-le (cell t (suc q)) t.used)
-
--- a negative number
-pub bounded-low : (m d : ℕ) (x : ℤ) → lt_z x (pos 0) ≡ true → d ≡ bounded_of m d x
+-- what is read lies within the bounds
+pub bounded-bounds : (l m n : ℕ) (x : ℤ) → bounded_of l m x ≡ Some n → (l ≤ n) × (n ≤ m)
 unfolding bounded_of
-bounded-low m d (pos n) e = let h = ltb-true n 0 e in absurd (omega arith)
-bounded-low m d (negsuc n) e = refl
+bounded-bounds l m n (pos k) e = grind (arith, nat_tests)
+bounded-bounds l m n (negsuc k) e = grind arith
 
--- a number above the bound
-pub bounded-high : (m d : ℕ) (x : ℤ) → m < nat_abs x → lt_z x (pos 0) ≡ false → d ≡ bounded_of m d x
-unfolding bounded_of
-bounded-high m d (pos n) h e = simp (lt-ltb m n h)
-bounded-high m d (negsuc n) h e = refl
+-- of a mark of two cells too
+pub second-bounds : (l m n : ℕ) (t : Table) (q : ℕ) → second_at l m t q ≡ Some n → (l ≤ n) × (n ≤ m)
+unfolding second_cell second_at
+second-bounds l m n t q e = grind (arith, nat_tests, bounded-bounds)
 
--- a number within the bound
-pub bounded-in : (m d : ℕ) (x : ℤ) → nat_abs x ≤ m → lt_z x (pos 0) ≡ false → nat_abs x ≡ bounded_of m d x
-unfolding bounded_of
-bounded-in m d (pos n) h e = simp (le-ltb m n h)
-bounded-in m d (negsuc n) h e = wrong e
+-- a false exit is at most the used cells
+pub exit-le : (t : Table) (q f : ℕ) → exit_of t q ≡ Some f → f ≤ t.used
+exit-le t q f e = (second-bounds code_start t.used f t q e).1
 
--- a number above 0
-pub negated-high : (m : ℕ) (x : ℤ) → lt_z (pos 0) x ≡ true → 0 ≡ negated_of m x
+-- ── a number that is held negated ───────────────────────────────────────────────────────────────
+
+-- what is read is one of them
+pub negated-bounds : (m n : ℕ) (x : ℤ) → negated_of m x ≡ Some n → (0 < n) × (n ≤ m)
 unfolding negated_of
-negated-high m (pos n) e = refl
-negated-high m (negsuc n) e = absurd (false≢true e)
+negated-bounds m n (pos k) e = grind arith
+negated-bounds m n (negsuc k) e = grind (arith, nat_tests)
 
--- a number below the lowest
-pub negated-low : (m : ℕ) (x : ℤ) → lt_z x (neg_ℤ (pos m)) ≡ true → 0 ≡ negated_of m x
-unfolding negated_of
-negated-low m (pos n) e = refl
-negated-low zero (negsuc n) e = rw (le-ltb n 0 (omega arith))
-negated-low (suc m) (negsuc n) e = let h = ltb-true m n e in rw (le-ltb n (suc m) (omega arith))
+-- ── a counter ───────────────────────────────────────────────────────────────────────────────────
 
--- any other, negated
-pub negated-in : (m : ℕ) (x : ℤ) → lt_z (pos 0) x ≡ false → lt_z x (neg_ℤ (pos m)) ≡ false
-    → (T (non_neg (pos 0 -ℤ x)) × (nat_abs (pos 0 -ℤ x) ≤ m)) × (nat_abs (pos 0 -ℤ x) ≡ negated_of m x)
-unfolding negated_of
-negated-in m (pos zero) e g = ((tt, omega arith), refl)
-negated-in m (pos (suc n)) e g = let h = ltb-false 0 (suc n) e in absurd (omega arith)
-negated-in zero (negsuc n) e g = wrong g
-negated-in (suc m) (negsuc n) e g =
-    let h = ltb-false m n g in
-    ((tt, omega arith), rw (lt-ltb n (suc m) (omega arith)) (omega arith))
+-- a counter's number, order and false exit lie where they must
+pub record Bounded (t : Table) (x : Counter) : Type 0 where
+  pub some : 0 < x.limit
+  pub limit : x.limit ≤ max_limit
+  pub order : x.order < max_counters
+  pub exit : x.exit ≤ t.used
 
--- no more than m
-pub negated-le : (m : ℕ) (x : ℤ) → negated_of m x ≤ m
-unfolding negated_of
-negated-le m (pos n) = omega arith
-negated-le m (negsuc n) = by-ltb n m (λ b. cond b (suc n) 0 ≤ m) (λ h. omega arith) (λ h. omega arith)
+pub counter-bounds : (t : Table) (q : ℕ) (x : Counter) → counter_at t q ≡ Some x → Bounded t x
+unfolding counter_at
+counter-bounds t q x e =
+    record {
+      some = grind (arith, nat_tests, negated-bounds);
+      limit = grind (arith, nat_tests, negated-bounds);
+      order = grind (arith, nat_tests, bounded-bounds);
+      exit = grind (arith, nat_tests, bounded-bounds);
+    }
 
-at_most : (m d : ℕ) (t : Bool) (n : ℕ) → m ≤ d → ltb m n ≡ t → cond t d n ≤ d
-at_most m d true n h e = omega arith
-at_most m d false n h e = omega (arith, ltb-false m n e)
-
--- the number is at most the one that stands for damage, where that is beyond the bound
-pub bounded-le : (m d : ℕ) (x : ℤ) → m ≤ d → bounded_of m d x ≤ d
-unfolding bounded_of
-bounded-le m d (pos n) h = at_most m d (ltb m n) n h refl
-bounded-le m d (negsuc n) h = omega arith
+-- ── a byte ──────────────────────────────────────────────────────────────────────────────────────
 
 -- a cell above 0 is a transfer
-pub byte_high : (x : ℤ) → lt_z (pos 0) x ≡ true → transfer_byte ≡ byte_of x
+pub byte_high : (x : ℤ) → lt_z (pos 0) x ≡ true → Transfer ≡ byte_of x
 unfolding byte_of
 byte_high (pos zero) e = absurd (false≢true e)
 byte_high (pos (suc n)) e = refl
 byte_high (negsuc n) e = absurd (false≢true e)
 
--- any other holds a mark's byte negated, or none
-pub byte-negated : (x : ℤ) → lt_z (pos 0) x ≡ false → negated_of constant_code x ≡ byte_of x
-unfolding byte_of
-byte-negated (pos zero) e = refl
-byte-negated (pos (suc n)) e = let h = ltb-false 0 (suc n) e in absurd (omega arith)
-byte-negated (negsuc n) e = refl
-
 -- ── a byte says what the cell is ────────────────────────────────────────────────────────────────
 
+-- the cell z holds the byte b negated
+pub record Marked (z : ℤ) (b : ℕ) : Type 0 where
+  pub n : ℕ
+  pub cell : z ≡ negsuc n
+  pub byte : b ≡ suc n
+
 -- a mark's byte
-pub byte-mark : (x : ℤ) (n : ℕ) → (suc n ≡ transfer_byte → ⊥) → byte_of x ≡ suc n → x ≡ negsuc n
+pub byte-mark : (x : ℤ) (b : ℕ) → byte_of x ≡ Mark b → Marked x b
 unfolding byte_of
-byte-mark (pos zero) n h e = absurd (omega arith)
-byte-mark (pos (suc k)) n h e = absurd (h (sym e))
-byte-mark (negsuc k) n h e =
-    by-ltb k constant_code (λ u. cond u (suc k) 0 ≡ suc n → negsuc k ≡ negsuc n) (λ l z. let q : k ≡ n = omega arith in ap negsuc q)
-    (λ l z. absurd (omega arith)) e
+byte-mark (pos zero) b e = absurd cc
+byte-mark (pos (suc k)) b e = absurd cc
+byte-mark (negsuc k) b e = record { n = k; cell = refl; byte = grind (arith, nat_tests) }
 
 -- the byte of a transfer
-pub byte-transfer : (x : ℤ) → byte_of x ≡ transfer_byte → x ≡ pos (nat_abs x)
+pub byte-transfer : (x : ℤ) → byte_of x ≡ Transfer → x ≡ pos (nat_abs x)
 unfolding byte_of
 byte-transfer (pos n) e = refl
-byte-transfer (negsuc k) e =
-    by-ltb k constant_code (λ u. cond u (suc k) 0 ≡ transfer_byte → negsuc k ≡ pos (suc k)) (λ l z. absurd (omega arith)) (λ l z. absurd (omega arith)) e
+byte-transfer (negsuc k) e = grind (arith, nat_tests)
 
 -- ── the bytes of a print ────────────────────────────────────────────────────────────────────────
 
--- below the blank
-pub print-low : (x : ℤ) → lt_z x (pos 32) ≡ true → 0 ≡ print_of x
-unfolding print_of
-print-low (pos n) e = let h = ltb-true n 32 e in rw (ne_eqb n 39 (λ z. omega arith), lt-leb 32 n h)
-print-low (negsuc n) e = refl
-
--- above the last byte
-pub print-high : (x : ℤ) → lt_z (pos 126) x ≡ true → 0 ≡ print_of x
-unfolding print_of
-print-high (pos n) e = let h = ltb-true 126 n e in rw (ne_eqb n 39 (λ z. omega arith), le-leb 32 n (omega arith), lt-leb n 126 h)
-print-high (negsuc n) e = refl
-
--- the byte of `'`
-pub print-quote : (x : ℤ) → x ≡ pos 39 → 0 ≡ print_of x
-unfolding print_of
-print-quote x e = rw e
-
--- a byte of a print
-pub print-in : (x : ℤ) → lt_z x (pos 32) ≡ false → lt_z (pos 126) x ≡ false → (x ≡ pos 39 → ⊥)
-    → (T (non_neg x) × Fits w8 (nat_abs x)) × (nat_abs x ≡ print_of x)
-unfolding print_of
-print-in (pos n) e f q =
-    let h = ltb-false n 32 e in
-    let k = ltb-false 126 n f in
-    ((tt, record { fits = omega arith }), rw (ne_eqb n 39 (λ z. q (ap pos z)), le-leb 32 n h, le-leb n 126 k))
-print-in (negsuc n) e f q = wrong e
-
--- ── prints ──────────────────────────────────────────────────────────────────────────────────────
-
--- no bytes
-pub printable-none : (c : List ℤ) (i n : ℕ) → n ≡ 0 → printable c i n ≡ true
-unfolding printable
-printable-none c i n e = rw e
-
--- the first breaks its form
-pub printable-break : (c : List ℤ) (i n : ℕ) → 0 < n → print_of (get_or c i (pos 0)) ≡ 0 → printable c i n ≡ false
-unfolding printable
-printable-break c i zero h e = absurd (omega arith)
-printable-break c i (suc n) h e = rw (eq-eqb (print_of (get_or c i (pos 0))) 0 e)
-
 -- the first has its form
-pub printable-step : (c : List ℤ) (i n : ℕ) → 0 < n → (print_of (get_or c i (pos 0)) ≡ 0 → ⊥) → printable c i n ≡ printable c (suc i) (n - 1)
+pub printable-step : (c : List ℤ) (i n : ℕ) → 0 < n → holds_print_byte (get_or c i (pos 0)) ≡ true → printable c i n ≡ printable c (i + 1) (n - 1)
 unfolding printable
 printable-step c i zero h e = absurd (omega arith)
-printable-step c i (suc n) h e =
-    let k : suc n - 1 ≡ n = omega arith in
-    rw (ne_eqb (print_of (get_or c i (pos 0))) 0 e, k)
+printable-step c i (suc n) h e = grind arith
 
 -- so many bytes
 pub length-prints : (c : List ℤ) (i n : ℕ) → length (prints_from c i n) ≡ n
@@ -202,12 +118,38 @@ length-prints c i zero = refl
 length-prints c i (suc n) = ap suc (length-prints c (suc i) n)
 
 -- the byte at a place
-pub get_or-prints : (c : List ℤ) (i n j : ℕ) → j < n → get_or (prints_from c i n) j 0 ≡ print_of (get_or c (i + j) (pos 0))
+pub get_or-prints : (c : List ℤ) (i n j : ℕ) → j < n → get_or (prints_from c i n) j 0 ≡ nat_abs (get_or c (i + j) (pos 0))
 unfolding prints_from
 get_or-prints c i zero j h = absurd (omega arith)
 get_or-prints c i (suc n) zero h =
     let e : i ≡ i + 0 = omega arith in
-    ap (λ (k : ℕ). print_of (get_or c k (pos 0))) e
+    ap (λ (k : ℕ). nat_abs (get_or c k (pos 0))) e
 get_or-prints c i (suc n) (suc j) h =
     let e : suc i + j ≡ i + suc j = omega arith in
-    get_or-prints c (suc i) n j (omega arith) ∙ ap (λ (k : ℕ). print_of (get_or c k (pos 0))) e
+    get_or-prints c (suc i) n j (omega arith) ∙ ap (λ (k : ℕ). nat_abs (get_or c k (pos 0))) e
+
+-- a byte of a print can be cast
+print-castable : (x : ℤ) → holds_print_byte x ≡ true → T (non_neg x) × Fits w8 (nat_abs x)
+unfolding holds_print_byte
+print-castable (negsuc n) e = absurd (false≢true e)
+print-castable (pos n) e = (tt, record { fits = grind (arith, nat_tests) })
+
+-- each byte of a print has its form
+print-each : (c : List ℤ) (i n j : ℕ) → printable c i n ≡ true → j < n → holds_print_byte (get_or c (i + j) (pos 0)) ≡ true
+unfolding printable
+print-each c i zero j e h = absurd (omega arith)
+print-each c i (suc n) zero e h = let k : i + 0 ≡ i = omega arith in rw k (first-true _ _ e)
+print-each c i (suc n) (suc j) e h = let k : i + suc j ≡ suc i + j = omega arith in rw k (print-each c (suc i) n j (second-true _ _ e) (omega arith))
+
+-- so that it can be cast
+pub prints-castable : (c : List ℤ) (i n j : ℕ) → printable c i n ≡ true → j < n → T (non_neg (get_or c (i + j) (pos 0))) × Fits w8 (nat_abs (get_or c (i + j) (pos 0)))
+prints-castable c i n j e h = print-castable (get_or c (i + j) (pos 0)) (print-each c i n j e h)
+
+-- what a print promises of its length
+pub record Printed (c : List ℤ) (p : Code) (q n : ℕ) : Type 0 where
+  pub early : q + 3 + n ≤ p.end
+  pub form : printable c (bytes_index p q) n ≡ true
+
+pub print-good : (c : List ℤ) (p : Code) (q n : ℕ) → print_at c p q ≡ Some n → Printed c p q n
+unfolding print_at
+print-good c p q n e = record { early = grind (arith, nat_tests); form = grind (arith, nat_tests) }

@@ -1,13 +1,16 @@
--- What a cell decodes to, in the numbers that the code reads.
+-- What a cell decodes to, in what the code reads.
 use mathlib.Core.Path.{◌≡◌, refl, sym, ap, ◌∙◌, subst}
-use mathlib.Core.Bool.{Bool, true, false, cond, not, ◌&&◌}
+use mathlib.Core.Bool.{Bool, true, false, cond, ◌&&◌}
 use mathlib.Core.List.{List, ◌∷◌}
 use Prim.Native.Nat.{ℕ, zero, suc, ◌+◌, ◌-◌, ◌<◌, ◌≤◌}
 use native.Mathlib.Omega.{arith}
-use lib.Dec.{eqb, ltb, leb}
+use native.Mathlib.Numerals.{add-one}
+use lib.Dec.{ltb}
 use lib.IntN.{ℤ, pos, negsuc, nat_abs}
 use lib.ListN.{get_or}
 use borrow.Author.Tests.{lt-ltb, le-ltb, le-leb, lt-leb, eq-eqb, ne_eqb}
+use Rattle.std.specs.Prelude.{Option, Some, None, unwrap_or, option_map, option_and_then}
+use Rattle.std.specs.Option.{option_map_or}
 use Rattle.language.specs.declared.Table.{Table}
 use Rattle.language.specs.Syntax.{constant_code, print_code, counter_code, Access, variable, constant, print, Condition, condition, counter}
 use Rattle.language.specs.Syntax.{operator_byte, absolute, discard, negate, copy, write, newline, input, add, subtract, multiply, divide}
@@ -18,97 +21,139 @@ use Rattle.language.specs.Between.{between}
 use Rattle.language.specs.Tokens.{print_byte}
 use Rattle.language.specs.Layout.{forward, code_start}
 use Rattle.language.specs.Values.{is_value}
-use Rattle.language.specs.Machine.{Instruction, transfer, fail, operate_at, test_at, call_at, Decoded, last, damaged, code, is_constant, is_print, is_counter, is_none, is_variable, is_condition, is_call, kind}
+use Rattle.language.specs.Machine.{transfer, fail, operate_at, test_at, call_at, Decoded, last, damaged, code, is_constant, is_print, is_counter, is_none, is_variable, is_condition, is_call, kind}
 use Rattle.language.specs.Machine.{cell, sound, natural, minus, exit_at, bytes_at, mark, early, exactly, decode}
 use Rattle.language.specs.Tables.{table_from}
-use Rattle.operands.specs.Operands.{transfer_byte, end_byte, byte_of, byte_at, target_of, exit_of, bounded_of, negated_of, digit_of, digit_at, order_of, limit_of, extent_of}
-use Rattle.operands.specs.Operands.{print_of, prints_from, printable, counter_at, print_at}
+use Rattle.operands.specs.declared.cells.Code.{Code}
+use Rattle.operands.specs.declared.cells.Counter.{Counter}
+use Rattle.operands.specs.declared.cells.Due.{Due}
+use Rattle.operands.specs.declared.cells.Due.TheVariants.{Mark, Transfer, End}
+use Rattle.operands.specs.Operands.{table_in, byte_of, byte_at, target_of, bounded_of, second_cell, second_at, exit_of, negated_of, digit_at, order_of, limit_of, counter_at}
+use Rattle.operands.specs.Operands.{holds_print_byte, prints_from, printable, bytes_index, print_at}
+use Rattle.language.proofs.Between.{between-true, between-high, between-bounds}
 use Rattle.language.proofs.LayoutPositions.{forward-add}
 use Rattle.language.proofs.Tests.{by-ltb}
 use Rattle.operands.proofs.Operands.{byte-mark, byte-transfer}
 use Rattle.operands.proofs.Tables.{cell_at}
 
--- a number within 2 to u
-pub target-read : (z : ℤ) (u : ℕ) (i : ℕ → Instruction) → natural z (λ f. sound (between 2 u f) (code (i f))) ≡ cond (eqb (target_of z u) 0) damaged (code (i (target_of z u)))
-unfolding natural sound target_of
-target-read (negsuc n) u i = refl
-target-read (pos n) u i =
-    by-ltb n 2 (λ t. sound (between 2 u n) (code (i n)) ≡ cond (eqb (cond t 0 (cond (ltb u n) 0 n)) 0) damaged (code (i (cond t 0 (cond (ltb u n) 0 n)))))
-    (λ h. rw (lt-leb 2 n h))
-    (λ h. by-ltb u n (λ t. sound (between 2 u n) (code (i n)) ≡ cond (eqb (cond t 0 n) 0) damaged (code (i (cond t 0 n))))
-    (λ k. rw (le-leb 2 n h, lt-leb n u k))
-    (λ k. rw (le-leb 2 n h, le-leb n u k, ne_eqb n 0 (λ e. omega arith))))
+-- what follows of a reading; damage where there is none
+abbrev pub decoded_from : {A : Type 0} → Option A → (A → Decoded) → Decoded
+decoded_from o k = option_map_or k o damaged
 
--- a mark of two cells with a false exit
-pub exit_read : (t : Table) (q : ℕ) (i : ℕ → Instruction) → sound (ltb (suc (suc q)) t.used) (exit_at t (suc q) i) ≡ cond (eqb (exit_of t q) 0) damaged (code (i (exit_of t q)))
-unfolding exit_at exit_of
-exit_read t q i =
-    by-ltb t.used (q + 3)
-    (λ u. sound (ltb (suc (suc q)) t.used) (exit_at t (suc q) i) ≡ cond (eqb (cond u 0 (target_of (cell t (suc q)) t.used)) 0) damaged (code (i (cond u 0 (target_of (cell t (suc q)) t.used)))))
+-- a number within l to m
+pub bounded-read : (l m : ℕ) (z : ℤ) (k : ℕ → Decoded) → natural z (λ n. sound (between l m n) (k n)) ≡ decoded_from (bounded_of l m z) k
+unfolding natural sound bounded_of
+bounded-read l m (negsuc n) k = refl
+bounded-read l m (pos n) k = go (between l m n)
+  where
+    go : (u : Bool) → sound u (k n) ≡ decoded_from (cond u (Some n) None) k
+    go true = refl
+    go false = refl
+
+-- the second cell of a mark of two cells
+pub cell-read : (t : Table) (q : ℕ) (k : ℤ → Decoded) → sound (ltb (suc (suc q)) t.used) (k (cell t (suc q))) ≡ decoded_from (second_cell t q) k
+unfolding sound second_cell
+cell-read t q k =
+    rw add-one
+    (by-ltb t.used (q + 3) (λ u. sound (ltb (suc (suc q)) t.used) (k (cell t (suc q))) ≡ decoded_from (cond u None (Some (cell t (suc q)))) k)
     (λ h. rw (le-ltb (suc (suc q)) t.used (omega arith)))
-    (λ h. rw (lt-ltb (suc (suc q)) t.used (omega arith)) (target-read (cell t (suc q)) t.used i))
+    (λ h. rw (lt-ltb (suc (suc q)) t.used (omega arith))))
 
-limit-read : (z : ℤ) (k : ℕ → Decoded) → minus z (λ m. sound (ltb m max_limit) (k m)) ≡ cond (eqb (limit_of z) 0) damaged (k (limit_of z - 1))
+-- the number that it holds
+pub second-read : (l m : ℕ) (t : Table) (q : ℕ) (k : ℕ → Decoded)
+    → sound (ltb (suc (suc q)) t.used) (natural (cell t (suc q)) (λ n. sound (between l m n) (k n))) ≡ decoded_from (second_at l m t q) k
+unfolding second_at
+second-read l m t q k =
+    cell-read t q (λ z. natural z (λ n. sound (between l m n) (k n)))
+    ∙ go (second_cell t q)
+  where
+    go : (o : Option ℤ) → decoded_from o (λ z. natural z (λ n. sound (between l m n) (k n))) ≡ decoded_from (option_and_then (λ z. bounded_of l m z) o) k
+    go None = refl
+    go (Some z) = bounded-read l m z k
+
+add-two : (q : ℕ) → q + 2 ≡ suc (suc q)
+add-two q = omega arith
+
+-- `N 0 J`, of their false exit
+pub condition-read : (t : Table) (q : ℕ) (g : Condition) → mark t q (is_condition g) ≡ decoded_from (exit_of t q) (λ f. code (test_at (condition g) (q + 2) f))
+unfolding mark exit_at
+condition-read t q g = rw add-two (second-read code_start t.used t q (λ f. code (test_at (condition g) (suc (suc q)) f)))
+
+-- a call, of its false exit
+pub call-read : (t : Table) (q a : ℕ) → mark t q (is_call a) ≡ decoded_from (exit_of t q) (λ f. code (call_at a (q + 2) f))
+unfolding mark exit_at
+call-read t q a = rw add-two (second-read code_start t.used t q (λ f. code (call_at a (suc (suc q)) f)))
+
+-- `F` or `S`, of its digit
+pub variable-read : (t : Table) (q : ℕ) (a : Access) → mark t q (is_variable a) ≡ decoded_from (digit_at t q) (λ d. code (operate_at (variable a d) (q + 2)))
+unfolding mark
+variable-read t q a = rw add-two (second-read 1 max_variables t q (λ d. code (operate_at (variable a d) (suc (suc q)))))
+
+-- a constant, of its cell
+pub constant-read : (t : Table) (q : ℕ) → mark t q is_constant ≡ decoded_from (second_cell t q) (λ z. cond (is_value z) (code (operate_at (constant z) (q + 2))) damaged)
+unfolding mark sound
+constant-read t q =
+    cell-read t q (λ z. sound (is_value z) (code (operate_at (constant z) (suc (suc q)))))
+    ∙ (λ i. decoded_from (second_cell t q) (λ z. (go (is_value z) (code (operate_at (constant z) (suc (suc q)))) ∙ ap (λ (n : ℕ). cond (is_value z) (code (operate_at (constant z) n)) damaged) (sym (add-two q))) i))
+  where
+    go : (u : Bool) (x : Decoded) → sound u x ≡ cond u x damaged
+    go true x = refl
+    go false x = refl
+
+-- ── counters ────────────────────────────────────────────────────────────────────────────────────
+
+limit-read : (z : ℤ) (k : ℕ → Decoded) → minus z (λ m. sound (ltb m max_limit) (k m)) ≡ decoded_from (limit_of z) (λ n. k (n - 1))
 unfolding minus sound negated_of
 limit-read (pos n) k = refl
 limit-read (negsuc n) k =
-    by-ltb n max_limit (λ t. sound t (k n) ≡ cond (eqb (cond t (suc n) 0) 0) damaged (k (cond t (suc n) 0 - 1)))
-    (λ h. let e : suc n - 1 ≡ n = omega arith in rw (ne_eqb (suc n) 0 (λ z. omega arith), e))
+    by-ltb n max_limit (λ t. sound t (k n) ≡ decoded_from (cond t (Some (suc n)) None) (λ n. k (n - 1)))
+    (λ h. let e : suc n - 1 ≡ n = omega arith in rw e)
     (λ h. refl)
 
-order-read : (z : ℤ) (k : ℕ → Decoded) → natural z (λ m. sound (ltb m max_counters) (k m)) ≡ cond (eqb (order_of z) max_counters) damaged (k (order_of z))
+order-read : (z : ℤ) (k : ℕ → Decoded) → natural z (λ m. sound (ltb m max_counters) (k m)) ≡ decoded_from (order_of z) k
 unfolding natural sound bounded_of
 order-read (negsuc n) k = refl
 order-read (pos n) k =
-    by-ltb (max_counters - 1) n (λ t. sound (ltb n max_counters) (k n) ≡ cond (eqb (cond t max_counters n) max_counters) damaged (k (cond t max_counters n)))
-    (λ h. rw (le-ltb n max_counters (omega arith)))
-    (λ h. rw (lt-ltb n max_counters (omega arith), ne_eqb n max_counters (λ z. omega arith)))
+    by-ltb n max_counters (λ t. sound t (k n) ≡ decoded_from (cond (between 0 (max_counters - 1) n) (Some n) None) k)
+    (λ h. rw (between-true 0 (max_counters - 1) n (omega arith) (omega arith)))
+    (λ h. rw (between-high 0 (max_counters - 1) n (omega arith)))
+
+add-three : (q : ℕ) → q + 3 ≡ suc (suc (suc q))
+add-three q = omega arith
 
 add-four : (q : ℕ) → q + 4 ≡ suc (suc (suc (suc q)))
 add-four q = omega arith
 
--- a counter, of its three readings
+-- three readings, one after the other
+three-read : (o p r : Option ℕ) (g : ℕ → ℕ → ℕ → Decoded)
+    → decoded_from o (λ n. decoded_from p (λ k. decoded_from r (λ f. g n k f)))
+    ≡ decoded_from (option_and_then (λ n. option_and_then (λ k. option_map (λ f. record { limit = n; order = k; exit = f }) r) p) o)
+    (λ (x : Counter). g x.limit x.order x.exit)
+three-read None p r g = refl
+three-read (Some n) None r g = refl
+three-read (Some n) (Some k) None g = refl
+three-read (Some n) (Some k) (Some f) g = refl
+
+-- a counter, of its number, its order and its false exit
 pub count-read : (t : Table) (q : ℕ)
-    → mark t q is_counter ≡ counter_at t.used q (limit_of (cell t (suc q))) (order_of (cell t (suc (suc q)))) (target_of (cell t (suc (suc (suc q)))) t.used)
+    → mark t q is_counter ≡ decoded_from (counter_at t q) (λ x. code (test_at (counter (x.limit - 1) x.order) (q + 4) x.exit))
 unfolding mark exit_at counter_at
 count-read t q =
-    let n = limit_of (cell t (suc q)) in
-    let k = order_of (cell t (suc (suc q))) in
-    let f = target_of (cell t (suc (suc (suc q)))) t.used in
-    rw add-four
+    let o = limit_of (cell t (suc q)) in
+    let p = order_of (cell t (suc (suc q))) in
+    let r = target_of (cell t (suc (suc (suc q)))) t.used in
+    let g : ℕ → ℕ → ℕ → Decoded = λ n k f. code (test_at (counter (n - 1) k) (suc (suc (suc (suc q)))) f) in
+    rw (add-one, add-two, add-three, add-four)
     (by-ltb t.used (q + 5)
-    (λ u. mark t q is_counter ≡ cond u damaged (cond (eqb n 0) damaged (cond (eqb k max_counters) damaged (cond (eqb f 0) damaged (code (test_at (counter (n - 1) k) (suc (suc (suc (suc q)))) f))))))
+    (λ u. mark t q is_counter
+    ≡ decoded_from (cond u None (option_and_then (λ n. option_and_then (λ k. option_map (λ f. record { limit = n; order = k; exit = f }) r) p) o))
+    (λ (x : Counter). g x.limit x.order x.exit))
     (λ h. rw (le-ltb (suc (suc (suc (suc q)))) t.used (omega arith)))
     (λ h. rw (lt-ltb (suc (suc (suc (suc q)))) t.used (omega arith))
-    (limit-read (cell t (suc q)) _ ∙ ap (λ (x : Decoded). cond (eqb n 0) damaged x)
-    (order-read (cell t (suc (suc q))) _ ∙ ap (λ (x : Decoded). cond (eqb k max_counters) damaged x)
-    (target-read (cell t (suc (suc (suc q)))) t.used _)))))
-
-module _ (u q n k f : ℕ) where
-  -- it does not end before the last two cells
-  pub counter-short : u < q + 5 → counter_at u q n k f ≡ damaged
-  unfolding counter_at
-  counter-short h = rw (lt-ltb u (q + 5) h)
-
-  -- its number is none
-  pub counter-number : q + 5 ≤ u → n ≡ 0 → counter_at u q n k f ≡ damaged
-  unfolding counter_at
-  counter-number h e = rw (le-ltb u (q + 5) h, eq-eqb n 0 e)
-
-  -- its order is none
-  pub counter-order : q + 5 ≤ u → (n ≡ 0 → ⊥) → k ≡ max_counters → counter_at u q n k f ≡ damaged
-  unfolding counter_at
-  counter-order h a e = rw (le-ltb u (q + 5) h, ne_eqb n 0 a, eq-eqb k max_counters e)
-
-  -- its false is none
-  pub counter-false : q + 5 ≤ u → (n ≡ 0 → ⊥) → (k ≡ max_counters → ⊥) → f ≡ 0 → counter_at u q n k f ≡ damaged
-  unfolding counter_at
-  counter-false h a b e = rw (le-ltb u (q + 5) h, ne_eqb n 0 a, ne_eqb k max_counters b, eq-eqb f 0 e)
-
-  -- it is a counter
-  pub counter-good : q + 5 ≤ u → (n ≡ 0 → ⊥) → (k ≡ max_counters → ⊥) → (f ≡ 0 → ⊥) → counter_at u q n k f ≡ code (test_at (counter (n - 1) k) (q + 4) f)
-  unfolding counter_at
-  counter-good h a b e = rw (le-ltb u (q + 5) h, ne_eqb n 0 a, ne_eqb k max_counters b, ne_eqb f 0 e)
+    (limit-read (cell t (suc q)) _
+    ∙ (λ i. decoded_from o (λ n. order-read (cell t (suc (suc q))) (λ k. natural (cell t (suc (suc (suc q)))) (λ f. sound (between 2 t.used f) (g n k f))) i))
+    ∙ (λ i. decoded_from o (λ n. decoded_from p (λ k. bounded-read code_start t.used (cell t (suc (suc (suc q)))) (λ f. g n k f) i)))
+    ∙ three-read o p r g)))
 
 -- ── the due cell ────────────────────────────────────────────────────────────────────────────────
 
@@ -132,74 +177,50 @@ low-decoded t q n h k e l =
 -- its byte is that of what it holds
 pub byte-early : (t : Table) (q : ℕ) → code_start ≤ q → q + 2 ≤ t.used → byte_at t q ≡ byte_of (cell t q)
 unfolding byte_at
-byte-early t q h k = rw (le-ltb q code_start h, le-ltb t.used q (omega arith), le-ltb (t.used - q) 2 (omega arith))
+byte-early t q h k = rw (between-true code_start (t.used - 2) q h (omega arith))
 
 -- no later cell has one
-pub byte-late : (t : Table) (q : ℕ) → t.used < q + 2 → byte_at t q ≡ end_byte
+pub byte-late : (t : Table) (q : ℕ) → t.used < q + 2 → byte_at t q ≡ End
 unfolding byte_at
-byte-late t q h =
-    by-ltb q code_start (λ u. cond u end_byte (cond (ltb t.used q) end_byte (cond (ltb (t.used - q) 2) end_byte (byte_of (cell t q)))) ≡ end_byte) (λ _. refl)
-    (λ _. by-ltb t.used q (λ u. cond u end_byte (cond (ltb (t.used - q) 2) end_byte (byte_of (cell t q))) ≡ end_byte) (λ _. refl)
-    (λ k. rw (lt-ltb (t.used - q) 2 (omega arith))))
+byte-late t q h = go (between code_start (t.used - 2) q) refl
+  where
+    go : (u : Bool) → between code_start (t.used - 2) q ≡ u → cond u (byte_of (cell t q)) End ≡ End
+    go true e = let b = between-bounds code_start (t.used - 2) q e in absurd (omega (arith, b.0, b.1))
+    go false e = refl
 
--- a cell with a byte stands before the last two
-byte_inside : (t : Table) (q n : ℕ) → byte_at t q ≡ suc n → ((code_start ≤ q) × (q + 2 ≤ t.used)) × (byte_of (cell t q) ≡ suc n)
+-- a cell that is known by its byte stands before the last two
+pub record Due_inside (t : Table) (q : ℕ) (d : Due) : Type 0 where
+  pub first : code_start ≤ q
+  pub early : q + 2 ≤ t.used
+  pub byte : byte_of (cell t q) ≡ d
+
+byte_inside : (t : Table) (q : ℕ) (d : Due) → (d ≡ End → ⊥) → byte_at t q ≡ d → Due_inside t q d
 unfolding byte_at
-byte_inside t q n e =
-    by-ltb q code_start (λ u. cond u 0 (cond (ltb t.used q) 0 (cond (ltb (t.used - q) 2) 0 (byte_of (cell t q)))) ≡ suc n → ((code_start ≤ q) × (q + 2 ≤ t.used)) × (byte_of (cell t q) ≡ suc n))
-    (λ _ z. absurd (omega arith))
-    (λ a. by-ltb t.used q (λ u. cond u 0 (cond (ltb (t.used - q) 2) 0 (byte_of (cell t q))) ≡ suc n → ((code_start ≤ q) × (q + 2 ≤ t.used)) × (byte_of (cell t q) ≡ suc n))
-    (λ _ z. absurd (omega arith))
-    (λ b. by-ltb (t.used - q) 2 (λ u. cond u 0 (byte_of (cell t q)) ≡ suc n → ((code_start ≤ q) × (q + 2 ≤ t.used)) × (byte_of (cell t q) ≡ suc n))
-    (λ _ z. absurd (omega arith))
-    (λ c z. ((a, omega arith), z))))
-    e
+byte_inside t q d n e = go (between code_start (t.used - 2) q) refl e
+  where
+    go : (u : Bool) → between code_start (t.used - 2) q ≡ u → cond u (byte_of (cell t q)) End ≡ d → Due_inside t q d
+    go true b i =
+        let k = between-bounds code_start (t.used - 2) q b in
+        record { first = k.0; early = omega (arith, k.0, k.1); byte = i }
+    go false b i = absurd (n (sym i))
 
 -- a mark goes by its byte
-pub mark-decoded : (t : Table) (q n : ℕ) → (suc n ≡ transfer_byte → ⊥) → byte_at t q ≡ suc n → decode t q ≡ mark t q (kind (suc n))
+pub mark-decoded : (t : Table) (q b : ℕ) → byte_at t q ≡ Mark b → decode t q ≡ mark t q (kind b)
 unfolding early
-mark-decoded t q n h e =
-    let k = byte_inside t q n e in
-    decode-inside t q k.0.0 k.0.1 ∙ ap (λ (z : ℤ). early t q z) (byte-mark (cell t q) n h k.1)
+mark-decoded t q b e =
+    let k = byte_inside t q (Mark b) (λ i. absurd cc) e in
+    let m = byte-mark (cell t q) b k.byte in
+    decode-inside t q k.first k.early ∙ ap (λ (z : ℤ). early t q z) m.cell ∙ ap (λ (x : ℕ). mark t q (kind x)) (sym m.byte)
 
 -- a transfer goes to its number, if that is a cell
-pub transfer-decoded : (t : Table) (q : ℕ) → byte_at t q ≡ transfer_byte
-    → decode t q ≡ cond (eqb (target_of (cell t q) t.used) 0) damaged (code (transfer (target_of (cell t q) t.used)))
+pub transfer-decoded : (t : Table) (q : ℕ) → byte_at t q ≡ Transfer → decode t q ≡ decoded_from (target_of (cell t q) t.used) (λ n. code (transfer n))
 unfolding early natural
 transfer-decoded t q e =
-    let k = byte_inside t q (transfer_byte - 1) e in
-    let z : cell t q ≡ pos (nat_abs (cell t q)) = byte-transfer (cell t q) k.1 in
-    decode-inside t q k.0.0 k.0.1
-    ∙ subst (λ (x : ℤ). early t q x ≡ cond (eqb (target_of x t.used) 0) damaged (code (transfer (target_of x t.used)))) (sym z)
-    (target-read (pos (nat_abs (cell t q))) t.used transfer)
-
-add-two : (q : ℕ) → q + 2 ≡ suc (suc q)
-add-two q = omega arith
-
--- `N 0 J`, of their false exit
-pub condition-read : (t : Table) (q : ℕ) (g : Condition) → mark t q (is_condition g) ≡ cond (eqb (exit_of t q) 0) damaged (code (test_at (condition g) (q + 2) (exit_of t q)))
-unfolding mark
-condition-read t q g = rw add-two (exit_read t q (λ f. test_at (condition g) (suc (suc q)) f))
-
--- a call, of its false exit
-pub call-read : (t : Table) (q a : ℕ) → mark t q (is_call a) ≡ cond (eqb (exit_of t q) 0) damaged (code (call_at a (q + 2) (exit_of t q)))
-unfolding mark
-call-read t q a = rw add-two (exit_read t q (λ f. call_at a (suc (suc q)) f))
-
--- a constant, of its cell
-pub constant-read : (t : Table) (q : ℕ) → mark t q is_constant ≡ cond (ltb t.used (q + 3)) damaged (cond (is_value (cell t (suc q))) (code (operate_at (constant (cell t (suc q))) (q + 2))) damaged)
-unfolding mark sound
-constant-read t q =
-    rw add-two
-    (by-ltb t.used (q + 3)
-    (λ u. sound (ltb (suc (suc q)) t.used) (sound (is_value (cell t (suc q))) (code (operate_at (constant (cell t (suc q))) (suc (suc q)))))
-    ≡ cond u damaged (cond (is_value (cell t (suc q))) (code (operate_at (constant (cell t (suc q))) (suc (suc q)))) damaged))
-    (λ h. rw (le-ltb (suc (suc q)) t.used (omega arith)))
-    (λ h. rw (lt-ltb (suc (suc q)) t.used (omega arith)) (go (is_value (cell t (suc q))) (code (operate_at (constant (cell t (suc q))) (suc (suc q)))))))
-  where
-    go : (u : Bool) (x : Decoded) → sound u x ≡ cond u x damaged
-    go true x = refl
-    go false x = refl
+    let k = byte_inside t q Transfer (λ i. absurd cc) e in
+    let z : cell t q ≡ pos (nat_abs (cell t q)) = byte-transfer (cell t q) k.byte in
+    decode-inside t q k.first k.early
+    ∙ subst (λ (x : ℤ). early t q x ≡ decoded_from (target_of x t.used) (λ n. code (transfer n))) (sym z)
+    (bounded-read code_start t.used (pos (nat_abs (cell t q))) (λ n. code (transfer n)))
 
 -- ── the two last cells, and no mark ─────────────────────────────────────────────────────────────
 
@@ -272,66 +293,35 @@ high-kind b h =
     let l : is_letter b ≡ false = rw (le-leb first_letter b (omega arith), lt-leb b last_letter (omega arith)) in
     none-kind b l (λ e. omega arith) (λ e. omega arith) (λ e. omega arith) (λ e. omega arith) (λ e. omega arith) (λ e. omega arith) (λ e. omega arith) (λ e. omega arith) (λ e. omega arith) (λ e. omega arith) (λ e. omega arith) (λ e. omega arith) (λ e. omega arith) (λ e. omega arith) (λ e. omega arith) (λ e. omega arith) (λ e. omega arith) (λ e. omega arith) (λ e. omega arith)
 
-zero-early : (t : Table) (q : ℕ) (z : ℤ) → byte_of z ≡ 0 → early t q z ≡ damaged
-unfolding early byte_of sound mark
-zero-early t q (pos zero) e = refl
-zero-early t q (pos (suc n)) e = absurd (omega arith)
-zero-early t q (negsuc n) e =
-    by-ltb n constant_code (λ u. cond u (suc n) 0 ≡ 0 → mark t q (kind (suc n)) ≡ damaged) (λ h z. absurd (omega arith))
-    (λ h z. rw (high-kind (suc n) (omega arith))) e
+end-early : (t : Table) (q : ℕ) (z : ℤ) → byte_of z ≡ End → early t q z ≡ damaged
+unfolding early byte_of sound mark negated_of
+end-early t q (pos zero) e = refl
+end-early t q (pos (suc n)) e = absurd cc
+end-early t q (negsuc n) e =
+    by-ltb n constant_code (λ u. unwrap_or (option_map Mark (cond u (Some (suc n)) None)) End ≡ End → mark t q (kind (suc n)) ≡ damaged)
+    (λ h i. absurd cc) (λ h i. rw (high-kind (suc n) (omega arith))) e
 
 -- a cell before the last two that is neither a mark nor a transfer
-pub decode-zero : (t : Table) (q : ℕ) → code_start ≤ q → q + 2 ≤ t.used → byte_at t q ≡ end_byte → decode t q ≡ damaged
-unfolding byte_at
-decode-zero t q h k e =
-    decode-inside t q h k
-    ∙ zero-early t q (cell t q) (rw (le-ltb q code_start h, le-ltb t.used q (omega arith), le-ltb (t.used - q) 2 (omega arith)) at e)
+pub decode-end : (t : Table) (q : ℕ) → code_start ≤ q → q + 2 ≤ t.used → byte_at t q ≡ End → decode t q ≡ damaged
+decode-end t q h k e = decode-inside t q h k ∙ end-early t q (cell t q) (sym (byte-early t q h k) ∙ e)
 
 -- a letter's byte
 pub call-kind : (b : ℕ) → first_letter ≤ b → b ≤ last_letter → kind b ≡ is_call (letter_index b)
 unfolding kind
 call-kind b h k = rw (le-leb first_letter b h, le-leb b last_letter k)
 
-digit-read : (z : ℤ) (k : ℕ → Decoded) → natural z (λ d. sound (between 1 max_variables d) (k d)) ≡ cond (eqb (digit_of z) 0) damaged (k (digit_of z))
-unfolding natural sound bounded_of
-digit-read (negsuc n) k = refl
-digit-read (pos n) k =
-    by-ltb max_variables n (λ t. sound (between 1 max_variables n) (k n) ≡ cond (eqb (cond t 0 n) 0) damaged (k (cond t 0 n)))
-    (λ h. rw (le-leb 1 n (omega arith), lt-leb n max_variables h))
-    (λ h. by-ltb 0 n (λ t. sound (leb 1 n && leb n max_variables) (k n) ≡ cond (eqb n 0) damaged (k n))
-    (λ g. rw (le-leb 1 n g, le-leb n max_variables h, ne_eqb n 0 (λ e. omega arith)))
-    (λ g. rw (lt-leb 1 n (omega arith), eq-eqb n 0 (omega arith))))
-
--- `F` or `S`, of its digit
-pub variable-read : (t : Table) (q : ℕ) (a : Access)
-    → mark t q (is_variable a) ≡ cond (eqb (digit_at t q) 0) damaged (code (operate_at (variable a (digit_at t q)) (q + 2)))
-unfolding mark digit_at
-variable-read t q a =
-    let d = digit_of (cell t (suc q)) in
-    rw add-two
-    (by-ltb t.used (q + 3)
-    (λ u. mark t q (is_variable a) ≡ cond (eqb (cond u 0 d) 0) damaged (code (operate_at (variable a (cond u 0 d)) (suc (suc q)))))
-    (λ h. rw (le-ltb (suc (suc q)) t.used (omega arith)))
-    (λ h. rw (lt-ltb (suc (suc q)) t.used (omega arith)) (digit-read (cell t (suc q)) (λ k. code (operate_at (variable a k) (suc (suc q)))))))
-
 -- ── prints ──────────────────────────────────────────────────────────────────────────────────────
 
-print-some : (n : ℕ) → print_byte n ≡ true → n ≡ 0 → ⊥
-print-some n e z =
-    let k : ◌≡◌ {A = Bool} false true = subst (λ (m : ℕ). print_byte m ≡ true) z e in
-    let o : ◌≡◌ {A = ℕ} 0 1 = cc in
-    omega arith
-
-byte-read : (z : ℤ) (k : ℕ → Decoded) → natural z (λ b. sound (print_byte b) (k b)) ≡ cond (eqb (print_of z) 0) damaged (k (print_of z))
-unfolding natural sound print_of
+byte-read : (z : ℤ) (k : ℕ → Decoded) → natural z (λ b. sound (print_byte b) (k b)) ≡ cond (holds_print_byte z) (k (nat_abs z)) damaged
+unfolding natural sound holds_print_byte
 byte-read (negsuc n) k = refl
-byte-read (pos n) k = go (print_byte n) refl
+byte-read (pos n) k = go (print_byte n)
   where
-    go : (u : Bool) → print_byte n ≡ u → sound u (k n) ≡ cond (eqb (cond u n 0) 0) damaged (k (cond u n 0))
-    go true e = rw (ne_eqb n 0 (print-some n e))
-    go false e = refl
+    go : (u : Bool) → sound u (k n) ≡ cond u (k n) damaged
+    go true = refl
+    go false = refl
 
-both : (u v : Bool) (x : Decoded) → cond u damaged (cond v x damaged) ≡ cond (not u && v) x damaged
+both : (u v : Bool) (x : Decoded) → cond u (cond v x damaged) damaged ≡ cond (u && v) x damaged
 both true v x = refl
 both false v x = refl
 
@@ -343,78 +333,68 @@ bytes_read c base end (suc n) q i k e h l =
     let z = get_or c i (pos 0) in
     rw (cell_at c base end q i h (omega arith) e)
     (byte-read z (λ b. bytes_at (table_from c base end) n (suc q) (λ l. k (b ∷ l)))
-    ∙ ap (λ (x : Decoded). cond (eqb (print_of z) 0) damaged x)
-    (bytes_read c base end n (suc q) (suc i) (λ l. k (print_of z ∷ l)) (omega arith) (omega arith) (omega arith))
-    ∙ both (eqb (print_of z) 0) (printable c (suc i) n) (k (print_of z ∷ prints_from c (suc i) n)))
+    ∙ ap (λ (x : Decoded). cond (holds_print_byte z) x damaged)
+    (bytes_read c base end n (suc q) (suc i) (λ l. k (nat_abs z ∷ l)) (omega arith) (omega arith) (omega arith))
+    ∙ both (holds_print_byte z) (printable c (suc i) n) (k (nat_abs z ∷ prints_from c (suc i) n)))
 
-module _ (c : List ℤ) (base end q i : ℕ) (place : i ≡ base + q + 1) (few : end ≤ max_cells) where
+module _ (c : List ℤ) (p : Code) (q : ℕ) (few : p.end ≤ max_cells) where
   abbrev t : Table
-  t = table_from c base end
+  t = table_in c p
+
+  abbrev i : ℕ
+  i = bytes_index p q
 
   abbrev bytes : ℕ → Decoded
   bytes n = bytes_at t n (suc (suc q)) (λ b. code (operate_at (print b) (forward n (suc (suc q)))))
 
+  abbrev printed : ℕ → Decoded
+  printed n = code (operate_at (print (prints_from c i n)) (q + 2 + n))
+
   -- the length fits: its bytes are read
-  fit-read : (n : ℕ) → q + 3 + n ≤ t.used → bytes n ≡ cond (printable c i n) (code (operate_at (print (prints_from c i n)) (q + 2 + n))) damaged
+  fit-read : (n : ℕ) → q + 3 + n ≤ t.used → bytes n ≡ decoded_from (cond (printable c i n) (Some n) None) printed
   fit-read n h =
       let e : forward n (suc (suc q)) ≡ q + 2 + n = forward-add n (suc (suc q)) ∙ omega arith in
-      bytes_read c base end n (suc (suc q)) i (λ b. code (operate_at (print b) (forward n (suc (suc q))))) (omega arith) (omega arith) (omega arith)
+      bytes_read c p.base p.end n (suc (suc q)) i (λ b. code (operate_at (print b) (forward n (suc (suc q))))) (omega arith) (omega arith) (omega arith)
       ∙ ap (λ (m : ℕ). cond (printable c i n) (code (operate_at (print (prints_from c i n)) m)) damaged) e
+      ∙ go (printable c i n) n
+    where
+      go : (u : Bool) (n : ℕ) → cond u (printed n) damaged ≡ decoded_from (cond u (Some n) None) printed
+      go true n = refl
+      go false n = refl
 
   room-read : (n : ℕ) → sound (ltb (forward n (suc (suc q))) t.used) (bytes n)
-      ≡ cond (ltb t.used (q + 3 + n)) damaged (cond (printable c i n) (code (operate_at (print (prints_from c i n)) (q + 2 + n))) damaged)
+      ≡ decoded_from (cond (ltb p.end (q + 3 + n)) None (cond (printable c i n) (Some n) None)) printed
   unfolding sound
   room-read n =
       let e = forward-add n (suc (suc q)) in
-      by-ltb t.used (q + 3 + n)
-      (λ v. sound (ltb (forward n (suc (suc q))) t.used) (bytes n)
-      ≡ cond v damaged (cond (printable c i n) (code (operate_at (print (prints_from c i n)) (q + 2 + n))) damaged))
+      by-ltb p.end (q + 3 + n)
+      (λ v. sound (ltb (forward n (suc (suc q))) t.used) (bytes n) ≡ decoded_from (cond v None (cond (printable c i n) (Some n) None)) printed)
       (λ h. ap (λ (v : Bool). sound v (bytes n)) (le-ltb (forward n (suc (suc q))) t.used (omega (arith, e))))
       (λ h. ap (λ (v : Bool). sound v (bytes n)) (lt-ltb (forward n (suc (suc q))) t.used (omega (arith, e))) ∙ fit-read n h)
 
   -- the length as the code reads it
+  abbrev fitting : ℕ → Option ℕ
+  fitting n = cond (ltb p.end (q + 3 + n)) None (cond (printable c i n) (Some n) None)
+
   length-read : (z : ℤ)
-      → natural z (λ n. sound (ltb (forward n (suc (suc q))) t.used) (bytes n))
-      ≡ cond (ltb t.used (q + 3 + extent_of z)) damaged
-      (cond (printable c i (extent_of z)) (code (operate_at (print (prints_from c i (extent_of z))) (q + 2 + extent_of z))) damaged)
+      → natural z (λ n. sound (ltb (forward n (suc (suc q))) t.used) (bytes n)) ≡ decoded_from (option_and_then fitting (bounded_of 0 max_cells z)) printed
   unfolding natural bounded_of
-  length-read (negsuc n) = rw (lt-ltb t.used (q + 3 + suc max_cells) (omega arith))
+  length-read (negsuc n) = refl
   length-read (pos n) =
       room-read n
-      ∙ by-ltb max_cells n
-      (λ v. cond (ltb t.used (q + 3 + n)) damaged (cond (printable c i n) (code (operate_at (print (prints_from c i n)) (q + 2 + n))) damaged)
-      ≡ cond (ltb t.used (q + 3 + cond v (suc max_cells) n)) damaged
-      (cond (printable c i (cond v (suc max_cells) n)) (code (operate_at (print (prints_from c i (cond v (suc max_cells) n))) (q + 2 + cond v (suc max_cells) n))) damaged))
-      (λ h. rw (lt-ltb t.used (q + 3 + n) (omega arith), lt-ltb t.used (q + 3 + suc max_cells) (omega arith)))
-      (λ h. refl)
+      ∙ by-ltb max_cells n (λ v. decoded_from (fitting n) printed ≡ decoded_from (option_and_then fitting (cond (between 0 max_cells n) (Some n) None)) printed)
+      (λ h. rw (between-high 0 max_cells n h, lt-ltb p.end (q + 3 + n) (omega arith)))
+      (λ h. rw (between-true 0 max_cells n (omega arith) h))
 
   -- a print, of its length
-  pub print-read : mark t q is_print ≡ print_at c i t.used q (extent_of (cell t (suc q)))
-  unfolding mark print_at sound
+  pub print-read : mark t q is_print ≡ decoded_from (print_at c p q) printed
+  unfolding mark print_at second_at
   print-read =
-      let n = extent_of (cell t (suc q)) in
-      by-ltb t.used (q + 3)
-      (λ v. mark t q is_print ≡ cond v damaged (cond (ltb t.used (q + 3 + n)) damaged (cond (printable c i n) (code (operate_at (print (prints_from c i n)) (q + 2 + n))) damaged)))
-      (λ h. rw (le-ltb (suc (suc q)) t.used (omega arith)))
-      (λ h. rw (lt-ltb (suc (suc q)) t.used (omega arith)) (length-read (cell t (suc q))))
-
-module _ (c : List ℤ) (i u q n : ℕ) where
-  -- it has no cell for its length before the last two
-  pub print-short : u < q + 3 → print_at c i u q n ≡ damaged
-  unfolding print_at
-  print-short h = rw (lt-ltb u (q + 3) h)
-
-  -- its bytes do not end before the last two
-  pub print-long : q + 3 ≤ u → u < q + 3 + n → print_at c i u q n ≡ damaged
-  unfolding print_at
-  print-long h k = rw (le-ltb u (q + 3) h, lt-ltb u (q + 3 + n) k)
-
-  -- a byte breaks its form
-  pub print-broken : q + 3 ≤ u → q + 3 + n ≤ u → printable c i n ≡ false → print_at c i u q n ≡ damaged
-  unfolding print_at
-  print-broken h k e = rw (le-ltb u (q + 3) h, le-ltb u (q + 3 + n) k, e)
-
-  -- it is a print
-  pub print-good : q + 3 ≤ u → q + 3 + n ≤ u → printable c i n ≡ true → print_at c i u q n ≡ code (operate_at (print (prints_from c i n)) (q + 2 + n))
-  unfolding print_at
-  print-good h k e = rw (le-ltb u (q + 3) h, le-ltb u (q + 3 + n) k, e)
+      cell-read t q (λ z. natural z (λ n. sound (ltb (forward n (suc (suc q))) t.used) (bytes n)))
+      ∙ go (second_cell t q)
+    where
+      go : (o : Option ℤ)
+          → decoded_from o (λ z. natural z (λ n. sound (ltb (forward n (suc (suc q))) t.used) (bytes n)))
+          ≡ decoded_from (option_and_then fitting (option_and_then (λ z. bounded_of 0 max_cells z) o)) printed
+      go None = refl
+      go (Some z) = length-read z

@@ -3,7 +3,9 @@ use Rattle.std.specs.Prelude.{◌≡◌, Bool, List, ℕ, ◌+◌, ℤ}
 use Rattle.language.specs.Syntax.{Operator, operator}
 use Rattle.language.specs.Effects.{State, Effect, pushed}
 use Rattle.language.specs.Machine.{Decoded, code, operate_at, Kind, mark, decode}
-use Rattle.language.specs.Tables.{table_from, stands_at, barred_at}
+use Rattle.language.specs.Tables.{stands_at, barred_at}
+use Rattle.operands.specs.declared.cells.Code.{Code}
+use Rattle.operands.specs.Operands.{table_in}
 use Rattle.operands.specs.Loop.{Turn, back, effect_turn, decoded_turn}
 use Rattle.operands.specs.Held.{Held, state_of, configuration_of, outcome}
 
@@ -15,13 +17,13 @@ Turns next before after = (h : Held) → outcome (after h) ≡ next (before h)
 abbrev pub decoded_as : Decoded → Held → Turn
 decoded_as d h = decoded_turn (stands_at h.used) (barred_at h.permissions h.role) d (configuration_of h)
 
--- a turn where the table's due cell holds a mark of this kind; the table's cells start at `base`, and `end` is its used-cell count
-abbrev pub mark_at : List ℤ → ℕ → ℕ → Kind → Held → Turn
-mark_at c base end k h = decoded_as (mark (table_from c base end) h.machine.at k) h
+-- a turn where the due cell of the table at this place holds a mark of this kind
+abbrev pub mark_at : List ℤ → Code → Kind → Held → Turn
+mark_at c p k h = decoded_as (mark (table_in c p) h.machine.at k) h
 
 -- a turn at the due cell of that table, whatever it holds
-abbrev pub due_at : List ℤ → ℕ → ℕ → Held → Turn
-due_at c base end h = decoded_as (decode (table_from c base end) h.machine.at) h
+abbrev pub due_at : List ℤ → Code → Held → Turn
+due_at c p h = decoded_as (decode (table_in c p) h.machine.at) h
 
 -- a turn at an operator's one cell
 abbrev pub operator_turn : Operator → Held → Turn

@@ -1,133 +1,212 @@
-// What the cells of a table say, read as plain numbers: each function answers a number that no sound cell gives where the cell is damaged. A table
-// stands in the store's cells from index `base` on, and `end` is its used-cell count; `at` is the due cell.
-ghost use Rattle.std.specs.Prelude.{◌≡◌, ◌+◌, ◌≤◌};
-ghost use Rattle.language.specs.Limits.{store_cells};
-ghost use Rattle.language.specs.Tables.{table_from};
-ghost use Rattle.operands.specs.Operands.{byte_of, byte_at, target_of, exit_of, bounded_of, digit_at, negated_of, print_of, printable};
+// What the cells of a table say, read as plain numbers: each reader answers `None` where the cell is damaged. `at` is the due cell.
+ghost use Rattle.std.specs.Prelude.{◌≡◌, ◌<◌, ◌+◌, ◌≤◌};
+ghost use Rattle.language.specs.Limits.{max_cells, store_cells};
+ghost use Rattle.language.specs.Machine.{cell};
+ghost use Rattle.operands.specs.Operands.{byte_of, byte_at, target_of, second_cell, second_at, exit_of, bounded_of, digit_at, negated_of, counter_at, print_at};
+ghost use Rattle.operands.specs.Operands.{table_in, holds_print_byte, printable};
 ghost use Rattle.operands.specs.Ready.{Placed, Inside};
 
 use language::{CONSTANT_CODE, STORE_CELLS, Table, VARIABLES};
 
-// The byte that stands for a transfer. No mark has it, nor the next one.
-const TRANSFER: usize = 255;
-
-// The byte for what is neither a mark nor a transfer.
-const END: usize = 0;
-
 // The highest number of a counter: "an n outside 1 to 9999".
-pub const MOST_LIMIT: u16 = 9999;
+const MOST_LIMIT: u16 = 9999;
 
-// A number of at most `most`, which its cell holds negated, or 0: a mark's byte, a counter's number.
-pub fn negated(x: i32, most: u16) -> usize
-    ensures { result ≡ negated_of most x }
-{
-    if 0 < x {
-        return 0;
-    }
-    if x < 0 - (most as i32) {
-        return 0;
-    }
-    (0 - x) as usize
+// A counter's last order.
+const LAST_ORDER: usize = Table::COUNTERS - 1;
+
+// Where a letter's code table stands in the store's cells: the index of its first cell, and its used-cell count.
+#[derive(Clone, Copy, Debug, PartialEq, Eq)]
+pub struct Code {
+    pub base: usize,
+    pub end: usize,
 }
 
-// A mark's byte, TRANSFER, or END.
-fn byte(x: i32) -> usize
+// What a due cell holds: a mark, by its byte, a transfer, or neither.
+#[derive(Clone, Copy, Debug, PartialEq, Eq)]
+pub enum Due {
+    Mark(u8),
+    Transfer,
+    End,
+}
+
+// A counter: its number, "its order in the text from 0", and its false exit.
+#[derive(Clone, Copy, Debug, PartialEq, Eq)]
+pub struct Counter {
+    pub limit: usize,
+    pub order: usize,
+    pub exit: usize,
+}
+
+// A number of 1 to `most`, which its cell holds negated: a mark's byte, a counter's number.
+#[tactic(auto, unfolding(crate::specs::Operands::negated_of))]
+fn negated(x: i32, most: u16) -> Option<usize>
+    ensures { result ≡ negated_of most x }
+{
+    if 0 <= x {
+        return None;
+    }
+    let n = x.unsigned_abs();
+    if n <= u32::from(most) {
+        Some(n as usize)
+    } else {
+        None
+    }
+}
+
+// A number of `least` to `most`: a cell's number, a variable's digit, a counter's order, a print's length.
+#[tactic(auto, unfolding(crate::specs::Operands::bounded_of))]
+fn bounded(x: i32, least: usize, most: usize) -> Option<usize>
+    ensures { result ≡ bounded_of least most x }
+{
+    if x < 0 {
+        return None;
+    }
+    let n = x as usize;
+    if n < least || most < n { None } else { Some(n) }
+}
+
+// A mark's byte, a transfer, or neither.
+#[tactic(auto, unfolding(crate::specs::Operands::byte_of, crate::specs::Operands::negated_of))]
+fn byte(x: i32) -> Due
     ensures { result ≡ byte_of x }
 {
     if 0 < x {
-        return TRANSFER;
+        return Due::Transfer;
     }
-    negated(x, CONSTANT_CODE as u16)
+    match negated(x, u16::from(CONSTANT_CODE)) {
+        Some(b) => Due::Mark(b as u8),
+        None => Due::End,
+    }
 }
 
-// The byte of the due cell; END for the last two cells, and for what is outside 2 to used.
-pub fn byte_at(cells: &[i32; STORE_CELLS], base: usize, end: usize, at: usize) -> usize
-    requires { Placed base end }
-    ensures { result ≡ byte_at (table_from cells.now base end) at }
+// Whether a cell holds a byte of a print, 32 to 126 other than `'`.
+#[tactic(auto, unfolding(crate::specs::Operands::holds_print_byte))]
+fn holds_print_byte(x: i32) -> bool
+    ensures { result ≡ holds_print_byte x }
 {
-    if at < Table::CODE_START {
-        return END;
-    }
-    if end < at {
-        return END;
-    }
-    if end - at < 2 {
-        return END;
-    }
-    byte(cells[base + at - 1])
-}
-
-// A cell number within 2 to used, or 0.
-pub fn target(x: i32, end: usize) -> usize
-    ensures { result ≡ target_of x end }
-{
-    if x < 2 {
-        return 0;
-    }
-    let f = x as usize;
-    if end < f { 0 } else { f }
-}
-
-// The false exit of a mark of two cells, or 0.
-pub fn exit_of(cells: &[i32; STORE_CELLS], base: usize, end: usize, at: usize) -> usize
-    requires { Inside base end at }
-    ensures { result ≡ exit_of (table_from cells.now base end) at }
-{
-    if end < at + 3 {
-        return 0;
-    }
-    target(cells[base + at], end)
-}
-
-// A number of at most `most`, or another: a variable's digit, a counter's order, a print's length.
-pub fn bounded(x: i32, most: usize, other: usize) -> usize
-    ensures { result ≡ bounded_of most other x }
-{
-    if x < 0 {
-        return other;
-    }
-    let k = x as usize;
-    if most < k { other } else { k }
-}
-
-// The digit of a variable, 1 to 10, or 0.
-pub fn digit_at(cells: &[i32; STORE_CELLS], base: usize, end: usize, at: usize) -> usize
-    requires { Inside base end at }
-    ensures { result ≡ digit_at (table_from cells.now base end) at }
-{
-    if end < at + 3 {
-        return 0;
-    }
-    bounded(cells[base + at], VARIABLES, 0)
-}
-
-// A byte of a print, 32 to 126 other than `'`, or 0.
-fn print_byte(x: i32) -> u8
-    ensures { result ≡ print_of x }
-{
-    if x < 32 {
-        return 0;
-    }
-    if 126 < x {
-        return 0;
-    }
-    if x == 39 {
-        return 0;
-    }
-    x as u8
+    matches!(x, 32..=126) && x != i32::from(b'\'')
 }
 
 // Whether n cells from an index on are bytes of a print.
-pub fn prints(cells: &[i32; STORE_CELLS], from: usize, n: usize) -> bool
+#[tactic(auto, unfolding(crate::specs::Operands::printable))]
+fn prints(cells: &[i32; STORE_CELLS], from: usize, n: usize) -> bool
     requires { from + n ≤ store_cells }
     ensures { result ≡ printable cells.now from n }
 {
-    let mut i: usize = 0;
-    while i < n {
-        if print_byte(cells[from + i]) == 0 {
+    for i in from..from + n {
+        if !holds_print_byte(cells[i]) {
             return false;
         }
-        i += 1;
     }
     true
+}
+
+impl Code {
+    // The cell with this number, the first being 1.
+    pub fn cell(self, cells: &[i32; STORE_CELLS], number: usize) -> i32
+        requires placed { Placed self }
+        requires some { 0 < number }
+        requires within { number ≤ max_cells }
+        ensures { result ≡ cell (table_in cells.now self) number }
+    {
+        cells[self.base + number - 1]
+    }
+
+    // What the due cell holds; neither a mark nor a transfer for the last two cells, and for what is outside 2 to used.
+    #[tactic(auto, unfolding(crate::specs::Operands::byte_at))]
+    pub fn byte_at(self, cells: &[i32; STORE_CELLS], at: usize) -> Due
+        requires { Placed self }
+        ensures { result ≡ byte_at (table_in cells.now self) at }
+    {
+        let last = self.end.saturating_sub(2);
+        if at < Table::CODE_START || last < at {
+            Due::End
+        } else {
+            byte(self.cell(cells, at))
+        }
+    }
+
+    // A cell number within 2 to used.
+    pub fn target(self, x: i32) -> Option<usize>
+        ensures { result ≡ target_of x self.end }
+    {
+        bounded(x, Table::CODE_START, self.end)
+    }
+
+    // The second cell of a mark of two cells.
+    #[tactic(auto, unfolding(crate::specs::Operands::second_cell))]
+    pub fn second_cell(self, cells: &[i32; STORE_CELLS], at: usize) -> Option<i32>
+        requires { Inside self at }
+        ensures { result ≡ second_cell (table_in cells.now self) at }
+    {
+        if self.end < at + 3 {
+            None
+        } else {
+            Some(self.cell(cells, at + 1))
+        }
+    }
+
+    // The number of `least` to `most` that it holds.
+    #[tactic(auto, unfolding(crate::specs::Operands::second_at))]
+    fn second_at(
+        self,
+        cells: &[i32; STORE_CELLS],
+        at: usize,
+        least: usize,
+        most: usize,
+    ) -> Option<usize>
+        requires { Inside self at }
+        ensures { result ≡ second_at least most (table_in cells.now self) at }
+    {
+        let x = self.second_cell(cells, at)?;
+        bounded(x, least, most)
+    }
+
+    // The false exit of a mark of two cells.
+    pub fn exit_of(self, cells: &[i32; STORE_CELLS], at: usize) -> Option<usize>
+        requires { Inside self at }
+        ensures { result ≡ exit_of (table_in cells.now self) at }
+    {
+        self.second_at(cells, at, Table::CODE_START, self.end)
+    }
+
+    // The digit of a variable, 1 to 10.
+    pub fn digit_at(self, cells: &[i32; STORE_CELLS], at: usize) -> Option<usize>
+        requires { Inside self at }
+        ensures { result ≡ digit_at (table_in cells.now self) at }
+    {
+        self.second_at(cells, at, 1, VARIABLES)
+    }
+
+    // A counter's number, order and false exit.
+    #[tactic(auto, unfolding(crate::specs::Operands::counter_at))]
+    pub fn counter_at(self, cells: &[i32; STORE_CELLS], at: usize) -> Option<Counter>
+        requires { Inside self at }
+        ensures { result ≡ counter_at (table_in cells.now self) at }
+    {
+        if self.end < at + 5 {
+            return None;
+        }
+        let limit = negated(self.cell(cells, at + 1), MOST_LIMIT)?;
+        let order = bounded(self.cell(cells, at + 2), 0, LAST_ORDER)?;
+        let exit = self.target(self.cell(cells, at + 3))?;
+        Some(Counter { limit, order, exit })
+    }
+
+    // The length of a print, whose bytes each have their form. The first of them stands at the index `base + at + 1`.
+    #[tactic(auto, unfolding(crate::specs::Operands::print_at))]
+    pub fn print_at(self, cells: &[i32; STORE_CELLS], at: usize) -> Option<usize>
+        requires { Inside self at }
+        ensures { result ≡ print_at cells.now self at }
+    {
+        let n = self.second_at(cells, at, 0, Table::CELLS)?;
+        if self.end < at + 3 + n {
+            return None;
+        }
+        if prints(cells, self.base + at + 1, n) {
+            Some(n)
+        } else {
+            None
+        }
+    }
 }
