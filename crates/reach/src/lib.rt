@@ -13,6 +13,7 @@ use admission::View;
 use book::Refusal;
 use language::{Ending, LETTERS, STORE_CELLS, Table, VARIABLES};
 use marks::CALLS;
+use operands::cells::Code;
 
 // A chain that comes to no letter twice has no more calls than this.
 const MOST_CALLS: usize = LETTERS - 1;
@@ -71,7 +72,11 @@ fn read_one(
     if end == 0 {
         return true;
     }
-    marks::read(cells, a * Table::CELLS, end, calls, a * LETTERS)
+    let code = Code {
+        base: a * Table::CELLS,
+        end,
+    };
+    marks::read(cells, code, calls, a * LETTERS)
 }
 
 // Reads every standing table: whether all are undamaged. Then all rows are ticked.
