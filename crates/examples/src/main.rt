@@ -1,10 +1,19 @@
 // Document 01's examples that are not starred, each tried and printed beside what it should give. The last line counts the differences.
 #![tactic(auto)]
 
+ghost use Rattle.std.specs.Prelude.{◌+◌, ◌≤◌};
+
+use book::answer_number;
 use engine::Store;
-use language::{CASHIER, FIRST_LETTER, HEIGHT, MOST_VALUE, OPEN};
-use operands::cells::bounded;
+use language::{CASHIER, FIRST_LETTER, HEIGHT, OPEN, TEXT};
+use std::fmt::Display;
 use std::io;
+
+// The letter d.
+const LETTER_D: u32 = 100;
+
+// The letter m.
+const LETTER_M: u32 = 109;
 
 // What a run gave: its number, its steps and the top of its list, 0 if none.
 #[derive(Clone, Copy)]
@@ -14,12 +23,6 @@ struct Given {
     top: i32,
 }
 
-// The letter d.
-const LETTER_D: u32 = 100;
-
-// The letter m.
-const LETTER_M: u32 = 109;
-
 // What a define gave: its number, and the cells that letter a then uses.
 #[derive(Clone, Copy)]
 struct Linked {
@@ -28,18 +31,18 @@ struct Linked {
 }
 
 fn top(list: &[i32; HEIGHT], height: usize) -> i32 {
-    if height == 0 {
-        return 0;
+    if 0 < height && height <= HEIGHT {
+        list[height - 1]
+    } else {
+        0
     }
-    let at = height - 1;
-    if at < HEIGHT { list[at] } else { 0 }
 }
 
 // d doubles 1 as often as the top says, and m asks d for its input.
 fn power(input: i32) -> Given {
-    let inputs = [input; 1];
-    let mut list = [0i32; HEIGHT];
-    let mut output = [0u8; 16];
+    let inputs = [input];
+    let mut list = [0; HEIGHT];
+    let mut output = [0; 16];
     let d = Store::fresh().define(LETTER_D, OPEN, b"(0L'/1';'/1'-d'/2'*;)");
     let m = d.store.define(LETTER_M, OPEN, b"(Id;)");
     let r = m
@@ -55,129 +58,92 @@ fn power(input: i32) -> Given {
 
 fn link(text: &[u8]) -> Linked {
     let a = Store::fresh().define(FIRST_LETTER, OPEN, text);
-    let used = a.store.used;
     Linked {
-        number: a.number,
-        cells: used[0],
+        number: answer_number(a.answer),
+        cells: a.store.used[0],
     }
 }
 
-fn many() -> Linked {
-    let mut text = [b'N'; 125];
+// So many N in one pair.
+fn pair(n: usize) -> Linked
+    requires { n + 2 ≤ TEXT }
+{
+    let mut text = [b'N'; TEXT];
     text[0] = b'(';
-    text[124] = b')';
-    link(&text)
+    text[n + 1] = b')';
+    link(&text[..n + 2])
 }
 
-fn too_many() -> Linked {
-    let mut text = [b'N'; 126];
-    text[0] = b'(';
-    text[125] = b')';
-    link(&text)
+// The examples printed so far, and how many of them gave something else.
+#[derive(Drop)]
+struct Trials {
+    rt: HostRuntime,
+    differences: u32,
 }
 
-// A value in decimal; a negative one, which no example gives, in words.
-fn print_value(rt: HostRuntime, x: i32) -> io::Result<()> {
-    if x < 0 {
-        return print!(rt; "below 0");
+impl Trials {
+    fn count(&mut self, same: bool) {
+        self.differences = self.differences.saturating_add(u32::from(!same));
     }
-    let value = bounded(x, MOST_VALUE as usize, 1000000000);
-    print!(rt; "{value}")
-}
 
-// One difference more, unless the figures are the same.
-fn counted(differences: u32, same: bool) -> u32 {
-    if same {
-        return differences;
+    fn number(&mut self, what: &str, found: u32, should: u32) -> io::Result<()> {
+        self.count(found == should);
+        println!(self.rt; "{what}: number {found} (should be {should})")
     }
-    if differences < 100 {
-        return differences + 1;
+
+    // The number and a figure besides.
+    fn figure<T: Display + PartialEq + Drop>(
+        &mut self,
+        what: &str,
+        name: &str,
+        found: (u32, T),
+        should: (u32, T),
+    ) -> io::Result<()> {
+        self.count(found == should);
+        let (number, figure) = found;
+        let (wanted, due) = should;
+        println!(self.rt; "{what}: number {number}, {name} {figure} (should be {wanted}, {due})")
     }
-    differences
-}
 
-fn number_line(
-    rt: HostRuntime,
-    differences: u32,
-    what: &str,
-    number: u32,
-    should: u32,
-) -> io::Result<u32> {
-    println!(rt; "{what}: number {number} (should be {should})")?;
-    Ok(counted(differences, number == should))
-}
+    fn runs(&mut self) -> io::Result<()> {
+        let first = power(29);
+        self.figure(
+            "m with input 29",
+            "top",
+            (first.number, first.top),
+            (0, 536870912),
+        )?;
+        self.number("m with input 30", power(30).number, 23)?;
+        self.number("m with input 99", power(99).number, 23)?;
+        let last = power(100);
+        self.figure(
+            "m with input 100",
+            "steps",
+            (last.number, last.steps),
+            (28, 401),
+        )
+    }
 
-fn top_line(
-    rt: HostRuntime,
-    differences: u32,
-    what: &str,
-    given: Given,
-    number: u32,
-    top: i32,
-) -> io::Result<u32> {
-    let found = given.number;
-    print!(rt; "{what}: number {found}, top ")?;
-    print_value(rt, given.top)?;
-    print!(rt; " (should be {number}, ")?;
-    print_value(rt, top)?;
-    println!(rt; ")")?;
-    let same = found == number;
-    Ok(counted(differences, same && given.top == top))
-}
-
-fn steps_line(
-    rt: HostRuntime,
-    differences: u32,
-    what: &str,
-    given: Given,
-    number: u32,
-    steps: u32,
-) -> io::Result<u32> {
-    let found = given.number;
-    let taken = given.steps;
-    println!(rt; "{what}: number {found}, steps {taken} (should be {number}, {steps})")?;
-    let same = found == number;
-    Ok(counted(differences, same && taken == steps))
-}
-
-fn cells_line(
-    rt: HostRuntime,
-    differences: u32,
-    what: &str,
-    linked: Linked,
-    number: u32,
-    cells: usize,
-) -> io::Result<u32> {
-    let found = linked.number;
-    let used = linked.cells;
-    println!(rt; "{what}: number {found}, cells {used} (should be {number}, {cells})")?;
-    let same = found == number;
-    Ok(counted(differences, same && used == cells))
-}
-
-fn runs(rt: HostRuntime) -> io::Result<u32> {
-    let a = top_line(rt, 0, "m with input 29", power(29), 0, 536870912)?;
-    let b = number_line(rt, a, "m with input 30", power(30).number, 23)?;
-    let c = number_line(rt, b, "m with input 99", power(99).number, 23)?;
-    steps_line(rt, c, "m with input 100", power(100), 28, 401)
-}
-
-fn texts(rt: HostRuntime, differences: u32) -> io::Result<u32> {
-    let a = cells_line(rt, differences, "123 N in one pair", many(), 0, 249)?;
-    let b = number_line(rt, a, "124 N in one pair", too_many().number, 8)?;
-    let c = number_line(rt, b, "$0$ in a pair", link(b"($0$)").number, 5)?;
-    let none = [0u8; 0];
-    let d = number_line(rt, c, "the empty text", link(&none).number, 7)?;
-    number_line(
-        rt,
-        d,
-        "eleven nested pairs",
-        link(b"((((((((((()))))))))))").number,
-        4,
-    )
+    fn texts(&mut self) -> io::Result<()> {
+        let many = pair(123);
+        self.figure(
+            "123 N in one pair",
+            "cells",
+            (many.number, many.cells),
+            (0, 249),
+        )?;
+        self.number("124 N in one pair", pair(124).number, 8)?;
+        self.number("$0$ in a pair", link(b"($0$)").number, 5)?;
+        self.number("the empty text", link(b"").number, 7)?;
+        let nested = link(b"((((((((((()))))))))))");
+        self.number("eleven nested pairs", nested.number, 4)
+    }
 }
 
 fn main(rt: HostRuntime) -> io::Result<()> {
-    let differences = texts(rt, runs(rt)?)?;
+    let mut trials = Trials { rt, differences: 0 };
+    trials.runs()?;
+    trials.texts()?;
+    let differences = trials.differences;
     println!(rt; "differences: {differences}")
 }

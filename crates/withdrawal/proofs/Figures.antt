@@ -34,14 +34,9 @@ pub record Numbers : Type 0 where
   pub withdrawn : ℕ
 
 abbrev numbers : List Reply → Numbers
-numbers [] = record { before = 0; paid = pos 0; after = 0; withdrawn = 0 }
-numbers (a ∷ []) = record { before = 0; paid = pos 0; after = 0; withdrawn = 0 }
-numbers (a ∷ b ∷ []) = record { before = 0; paid = pos 0; after = 0; withdrawn = 0 }
-numbers (a ∷ b ∷ c ∷ []) = record { before = 0; paid = pos 0; after = 0; withdrawn = 0 }
-numbers (a ∷ b ∷ c ∷ d ∷ []) = record { before = 0; paid = pos 0; after = 0; withdrawn = 0 }
-numbers (a ∷ b ∷ c ∷ d ∷ e ∷ []) = record { before = 0; paid = pos 0; after = 0; withdrawn = 0 }
 numbers (a ∷ b ∷ c ∷ d ∷ e ∷ f ∷ l) =
     record { before = c.report.number; paid = get_or c.list 0 (pos 0); after = e.report.number; withdrawn = f.report.number }
+numbers _ = record { before = 0; paid = pos 0; after = 0; withdrawn = 0 }
 
 -- a cashier's run of letter byte l with allowance 9
 abbrev run : ℕ → Run

@@ -26,13 +26,13 @@ pub struct Shown {
 pub fn session() -> Shown
     ensures { result ≡ record { before = 0; paid = pos 5; after = 27; withdrawn = 10 } }
 {
-    let none = [0i32; 0];
-    let mut list = [0i32; HEIGHT];
-    let mut list2 = [0i32; HEIGHT];
-    let mut list3 = [0i32; HEIGHT];
-    let mut output = [0u8; 16];
-    let mut output2 = [0u8; 16];
-    let mut output3 = [0u8; 16];
+    let none = [];
+    let mut list = [0; HEIGHT];
+    let mut list2 = [0; HEIGHT];
+    let mut list3 = [0; HEIGHT];
+    let mut output = [0; 16];
+    let mut output2 = [0; 16];
+    let mut output3 = [0; 16];
     let p = Store::fresh().define(LETTER_P, OPEN, b"('/5';)");
     let q = p.store.define(LETTER_Q, OPEN, b"(p;)");
     let first = q
@@ -53,16 +53,15 @@ pub fn session() -> Shown
     }
 }
 
-fn line(rt: HostRuntime, text: &str, n: u32) -> io::Result<()> {
-    println!(rt; "{text}{n}")
-}
-
 fn main(rt: HostRuntime) -> io::Result<()> {
-    let s = session();
-    line(rt, "run of q, p standing: ", s.before)?;
-    if s.paid == 5 {
-        line(rt, "paid: ", 5)?;
-    }
-    line(rt, "run of q, p withdrawn: ", s.after)?;
-    line(rt, "run of p, withdrawn: ", s.withdrawn)
+    let Shown {
+        before,
+        paid,
+        after,
+        withdrawn,
+    } = session();
+    println!(rt; "run of q, p standing: {before}")?;
+    println!(rt; "paid: {paid}")?;
+    println!(rt; "run of q, p withdrawn: {after}")?;
+    println!(rt; "run of p, withdrawn: {withdrawn}")
 }

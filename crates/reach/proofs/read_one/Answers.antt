@@ -12,7 +12,7 @@ returns-then-end-eq0 c = record { sound = rw (eq-eqb _ 0 c.if-end-eq0.true); cal
 
 pub read-requires : goal.read-requires
 read-requires c = let b = count-bounds _ c.requires.count c.if-end-eq0.false in
-    record { cells = omega (arith, c.requires.letter); low = b.0; high = b.1; row = omega (arith, c.requires.letter) }
+    record { placed = record { cells = omega (arith, c.requires.letter); used = b.1 }; low = b.0; row = omega (arith, c.requires.letter) }
 
 pub returns : goal.returns
 unfolding readable called_by
