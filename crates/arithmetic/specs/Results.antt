@@ -1,20 +1,18 @@
 -- What an operator makes of the values on the stack.
-use Rattle.std.specs.Prelude.{Bool, false, cond, ℤ, pos, nat_abs, neg_ℤ, ◌+ℤ◌, ◌-ℤ◌, ◌*ℤ◌, eqb}
-use Rattle.language.specs.declared.Ending.TheVariants.{Range}
+use Rattle.std.specs.Prelude.{cond, ℤ, pos, nat_abs, neg_ℤ, ◌+ℤ◌, ◌-ℤ◌, ◌*ℤ◌, eqb, Result, Ok, Err}
+use Rattle.language.specs.declared.Ending.{Ending}
+use Rattle.language.specs.declared.Ending.TheVariants.{Range, ZeroDivisor}
 use Rattle.language.specs.Syntax.{Operator, absolute, negate, add, subtract, multiply, divide}
 use Rattle.language.specs.Values.{is_value}
 use Rattle.language.specs.Division.{quotient}
-use Rattle.language.specs.Effects.{State, Effect, goes, stops, replaced, combined}
-use Rattle.arithmetic.specs.declared.Value.{Value}
-use Rattle.arithmetic.specs.declared.Value.TheVariants.{Is, Far}
 use Rattle.arithmetic.specs.declared.UnaryOperator.{UnaryOperator}
 use Rattle.arithmetic.specs.declared.UnaryOperator.TheVariants.{Absolute, Negate}
 use Rattle.arithmetic.specs.declared.BinaryOperator.{BinaryOperator}
 use Rattle.arithmetic.specs.declared.BinaryOperator.TheVariants.{Add, Subtract, Multiply, Divide}
 
 -- "range: result outside the values"
-abbrev pub value_of : ℤ → Value
-value_of z = cond (is_value z) (Is z) Far
+abbrev pub value_of : ℤ → Result ℤ Ending
+value_of z = cond (is_value z) (Ok z) (Err Range)
 
 -- ── `A` and `M` ─────────────────────────────────────────────────────────────────────────────────
 
@@ -24,14 +22,9 @@ unary_of Absolute = absolute
 unary_of Negate = negate
 
 -- its result on the top
-abbrev pub unary_result : UnaryOperator → ℤ → Value
+abbrev pub unary_result : UnaryOperator → ℤ → Result ℤ Ending
 unary_result Absolute x = value_of (pos (nat_abs x))
 unary_result Negate x = value_of (neg_ℤ x)
-
--- what a result does in place of the top
-abbrev pub replaced_as : Value → State → Effect
-replaced_as (Is z) s = goes (replaced s z)
-replaced_as Far s = stops Range
 
 -- ── `+ - * /` ───────────────────────────────────────────────────────────────────────────────────
 
@@ -42,21 +35,13 @@ binary_of Subtract = subtract
 binary_of Multiply = multiply
 binary_of Divide = divide
 
--- "zero divisor": it has no result where this is the top
-abbrev pub undefined_for : BinaryOperator → ℤ → Bool
-undefined_for Add y = false
-undefined_for Subtract y = false
-undefined_for Multiply y = false
-undefined_for Divide y = eqb (nat_abs y) 0
+-- "zero divisor", or the quotient
+abbrev pub divided : ℤ → ℤ → Result ℤ Ending
+divided x y = cond (eqb (nat_abs y) 0) (Err ZeroDivisor) (Ok (quotient x y))
 
--- its result on second and top
-abbrev pub binary_result : BinaryOperator → ℤ → ℤ → Value
+-- its result on second and top: "24 before 23"
+abbrev pub binary_result : BinaryOperator → ℤ → ℤ → Result ℤ Ending
 binary_result Add x y = value_of (x +ℤ y)
 binary_result Subtract x y = value_of (x -ℤ y)
 binary_result Multiply x y = value_of (x *ℤ y)
-binary_result Divide x y = value_of (quotient x y)
-
--- what a result does in place of second and top
-abbrev pub combined_as : Value → State → Effect
-combined_as (Is z) s = goes (combined s z)
-combined_as Far s = stops Range
+binary_result Divide x y = cond (eqb (nat_abs y) 0) (Err ZeroDivisor) (value_of (quotient x y))

@@ -1,31 +1,24 @@
 // `A M + - * /`: through 64 bits, so that no result wraps before its range is tested.
 #![tactic(auto)]
 
-ghost use Rattle.std.specs.Prelude.{◌≡◌, false, ◌+◌};
-ghost use Rattle.language.specs.Division.{quotient};
+ghost use Rattle.std.specs.Prelude.{◌≡◌};
 ghost use Rattle.operands.specs.Held.{stacked};
-ghost use Rattle.operands.specs.Turns.{Turns, effected, operator_turn};
-ghost use Rattle.operands.specs.Ready.{Ready, Due};
-ghost use Rattle.arithmetic.specs.declared.BinaryOperator.TheVariants.{Divide};
-ghost use Rattle.arithmetic.specs.Results.{value_of, unary_of, unary_result, replaced_as, binary_of, undefined_for, binary_result, combined_as};
+ghost use Rattle.operands.specs.Turns.{Turns, operator_turn};
+ghost use Rattle.operands.specs.Ready.{Ready};
+ghost use Rattle.arithmetic.specs.Results.{value_of, unary_of, unary_result, binary_of, divided, binary_result};
 
-use language::{Ending, HEIGHT, MOST_VALUE};
+use language::{Ending, HEIGHT, LEAST_VALUE, MOST_VALUE};
 use operands::Machine;
 
-// The range of the values, in 64 bits.
-const HIGHEST: i64 = MOST_VALUE as i64;
-
-const LOWEST: i64 = 0 - HIGHEST;
-
 // `A` and `M`.
-#[derive(Clone, Copy)]
+#[derive(Clone, Copy, Debug, PartialEq, Eq)]
 pub enum UnaryOperator {
     Absolute,
     Negate,
 }
 
 // `+ - * /`.
-#[derive(Clone, Copy)]
+#[derive(Clone, Copy, Debug, PartialEq, Eq)]
 pub enum BinaryOperator {
     Add,
     Subtract,
@@ -33,120 +26,64 @@ pub enum BinaryOperator {
     Divide,
 }
 
-// A result within ±999,999,999, or one outside.
-#[derive(Clone, Copy)]
-enum Value {
-    Is(i32),
-    Far,
-}
-
 // "range: result outside the values"
-fn ranged(z: i64) -> Value
+#[tactic(auto, unfolding(language::specs::Values::is_value))]
+fn ranged(z: i64) -> Result<i32, Ending>
     ensures { result ≡ value_of z }
 {
-    if z < LOWEST {
-        return Value::Far;
+    if z < i64::from(LEAST_VALUE) || i64::from(MOST_VALUE) < z {
+        return Err(Ending::Range);
     }
-    if HIGHEST < z {
-        return Value::Far;
-    }
-    Value::Is(z as i32)
+    Ok(z as i32)
 }
 
 // The result of an operator on the top.
-fn unary_result(o: UnaryOperator, x: i32) -> Value
+fn unary_result(o: UnaryOperator, x: i32) -> Result<i32, Ending>
     ensures { result ≡ unary_result o x }
 {
-    let z = x as i64;
+    let z = i64::from(x);
     match o {
-        UnaryOperator::Absolute => {
-            if z < 0 {
-                return ranged(0 - z);
-            }
-            ranged(z)
-        }
-        UnaryOperator::Negate => ranged(0 - z),
+        UnaryOperator::Absolute => ranged(z.abs()),
+        UnaryOperator::Negate => ranged(-z),
     }
 }
 
-// "zero divisor"
-fn undefined(o: BinaryOperator, y: i32) -> bool
-    ensures { result ≡ undefined_for o y }
+// "zero divisor"; else document 02, U5: "the greatest whole number not above the exact quotient". The processor drops the remainder toward zero. So where
+// the exact quotient is negative, a dividend one nearer to 0 is divided, and 1 taken from the result.
+fn divided(x: i32, y: i32) -> Result<i64, Ending>
+    ensures { result ≡ divided x y }
 {
-    match o {
-        BinaryOperator::Add => false,
-        BinaryOperator::Subtract => false,
-        BinaryOperator::Multiply => false,
-        BinaryOperator::Divide => y == 0,
+    let a = i64::from(x);
+    let b = i64::from(y);
+    if b == 0 {
+        return Err(Ending::ZeroDivisor);
     }
-}
-
-// Document 02, U5: "the greatest whole number not above the exact quotient". The processor drops the remainder toward zero. So where the exact
-// quotient is negative, a dividend one nearer to 0 is divided, and 1 taken from the result.
-fn divided(x: i32, y: i32) -> i64
-    requires { undefined_for Divide y ≡ false }
-    ensures { result ≡ quotient x y }
-{
-    let a = x as i64;
-    let b = y as i64;
     if a < 0 {
         if b < 0 {
-            return a / b; // both are negative
+            return Ok(a / b); // both are negative
         }
-        return (a + 1) / b - 1;
+        return Ok((a + 1) / b - 1);
     }
     if a == 0 {
-        return 0;
+        return Ok(0);
     }
     if b < 0 {
-        return (a - 1) / b - 1;
+        return Ok((a - 1) / b - 1);
     }
-    a / b
+    Ok(a / b)
 }
 
-// The result of an operator on second and top.
-fn binary_result(o: BinaryOperator, x: i32, y: i32) -> Value
-    requires { undefined_for o y ≡ false }
+// The result of an operator on second and top: "24 before 23".
+fn binary_result(o: BinaryOperator, x: i32, y: i32) -> Result<i32, Ending>
     ensures { result ≡ binary_result o x y }
 {
-    let a = x as i64;
-    let b = y as i64;
+    let a = i64::from(x);
+    let b = i64::from(y);
     match o {
         BinaryOperator::Add => ranged(a + b),
         BinaryOperator::Subtract => ranged(a - b),
         BinaryOperator::Multiply => ranged(a * b),
-        BinaryOperator::Divide => ranged(divided(x, y)),
-    }
-}
-
-// A result in place of the top.
-fn replace(m: Machine, list: &mut [i32; HEIGHT], v: Value) -> Machine
-    requires { Due 1 m }
-    ensures { Turns (effected (replaced_as v) (m.at + 1)) (stacked m list.old) (stacked result list.new) }
-{
-    match v {
-        Value::Is(z) => {
-            let h = m.height;
-            list[h - 1] = z;
-            m.go(m.at + 1, h)
-        }
-        Value::Far => m.stop(Ending::Range),
-    }
-}
-
-// A result in place of second and top.
-fn combine(m: Machine, list: &mut [i32; HEIGHT], v: Value) -> Machine
-    requires { Due 2 m }
-    ensures { Turns (effected (combined_as v) (m.at + 1)) (stacked m list.old) (stacked result list.new) }
-{
-    match v {
-        Value::Is(z) => {
-            let h = m.height;
-            list[h - 2] = z;
-            list[h - 1] = 0;
-            m.go(m.at + 1, h - 1)
-        }
-        Value::Far => m.stop(Ending::Range),
+        BinaryOperator::Divide => ranged(divided(x, y)?),
     }
 }
 
@@ -162,8 +99,13 @@ pub fn unary(m: Machine, list: &mut [i32; HEIGHT], o: UnaryOperator) -> Machine
     if h < 1 {
         return m.stop(Ending::ListEmpty);
     }
-    let v = unary_result(o, list[h - 1]);
-    replace(m, list, v)
+    match unary_result(o, list[h - 1]) {
+        Ok(z) => {
+            list[h - 1] = z;
+            m.go(m.at + 1, h)
+        }
+        Err(ending) => m.stop(ending),
+    }
 }
 
 // The marks `+ - * /`: "21 before 24 before 23".
@@ -178,10 +120,12 @@ pub fn binary(m: Machine, list: &mut [i32; HEIGHT], o: BinaryOperator) -> Machin
     if h < 2 {
         return m.stop(Ending::ListEmpty);
     }
-    let y = list[h - 1];
-    if undefined(o, y) {
-        return m.stop(Ending::ZeroDivisor);
+    match binary_result(o, list[h - 2], list[h - 1]) {
+        Ok(z) => {
+            list[h - 2] = z;
+            list[h - 1] = 0;
+            m.go(m.at + 1, h - 1)
+        }
+        Err(ending) => m.stop(ending),
     }
-    let v = binary_result(o, list[h - 2], y);
-    combine(m, list, v)
 }

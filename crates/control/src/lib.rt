@@ -8,8 +8,8 @@ ghost use Rattle.operands.specs.Ready.{Calling, Transferring, Closing};
 ghost use Rattle.control.specs.Calls.{Called};
 
 use language::{Ending, LETTERS, STORE_CELLS, Table, bars};
-use operands::cells::{exit_of, target};
-use operands::{FRAMES, Machine};
+use operands::cells::Code;
+use operands::{Frame, Machine, Status};
 
 // The call of letter a by a run whose caller has this role: 27, then 34, then 28.
 pub fn call<'a>(
@@ -18,18 +18,16 @@ pub fn call<'a>(
     used: &'a [usize; LETTERS],
     permissions: &'a [u32; LETTERS],
     role: u32,
-    base: usize,
-    end: usize,
-    frames: &mut [u32; FRAMES],
+    code: Code,
+    frames: &mut [Frame; Table::CALLS],
     a: usize,
 ) -> Machine
-    requires { Calling base end m a frames.old }
-    ensures { Called (mark_at cells.now base end (is_call a)) used.now permissions.now role m frames.old result frames.new }
+    requires { Calling code m a frames.old }
+    ensures { Called (mark_at cells.now code (is_call a)) used.now permissions.now role m frames.old result frames.new }
 {
-    let f = exit_of(cells, base, end, m.at);
-    if f == 0 {
+    let Some(f) = code.exit_of(cells, m.at) else {
         return m.stop(Ending::Damaged);
-    }
+    };
     if m.left == 0 {
         return m.stop(Ending::Spent);
     }
@@ -41,30 +39,32 @@ pub fn call<'a>(
     }
     let d = m.depth;
     if d < Table::CALLS {
-        frames[3 * d] = m.letter as u32;
-        frames[3 * d + 1] = (m.at + 2) as u32;
-        frames[3 * d + 2] = f as u32;
-        let mut r = m;
-        r.letter = a;
-        r.at = Table::CODE_START;
-        r.depth = d + 1;
-        r.left = m.left - 1;
-        r.state = Machine::ENTERS;
-        r
+        frames[d] = Frame {
+            letter: m.letter as u32,
+            next: (m.at + 2) as u32,
+            exit: f as u32,
+        };
+        Machine {
+            letter: a,
+            at: Table::CODE_START,
+            depth: d + 1,
+            left: m.left - 1,
+            status: Status::Enters,
+            ..m
+        }
     } else {
         m.stop(Ending::DeepCalls)
     }
 }
 
 // A transfer.
-pub fn transfer(m: Machine, cells: &[i32; STORE_CELLS], base: usize, end: usize) -> Machine
-    requires { Transferring cells.now base end m }
-    ensures { Turns (due_at cells.now base end) (on_machine m) (on_machine result) }
+pub fn transfer(m: Machine, cells: &[i32; STORE_CELLS], code: Code) -> Machine
+    requires { Transferring cells.now code m }
+    ensures { Turns (due_at cells.now code) (on_machine m) (on_machine result) }
 {
-    let n = target(cells[base + m.at - 1], end);
-    if n == 0 {
+    let Some(n) = code.target(code.cell(cells, m.at)) else {
         return m.stop(Ending::Damaged);
-    }
+    };
     if m.left == 0 {
         return m.stop(Ending::Spent);
     }
@@ -75,35 +75,24 @@ pub fn transfer(m: Machine, cells: &[i32; STORE_CELLS], base: usize, end: usize)
 pub fn end_of<'a>(
     m: Machine,
     cells: &'a [i32; STORE_CELLS],
-    base: usize,
-    end: usize,
-    frames: &'a [u32; FRAMES],
+    code: Code,
+    frames: &'a [Frame; Table::CALLS],
 ) -> Machine
-    requires { Closing cells.now base end m }
-    ensures { Turns (due_at cells.now base end) (framed m frames.now) (framed result frames.now) }
+    requires { Closing cells.now code m }
+    ensures { Turns (due_at cells.now code) (framed m frames.now) (framed result frames.now) }
 {
     let at = m.at;
-    if at < Table::CODE_START {
+    if at < Table::CODE_START || code.end < at {
         return m.stop(Ending::Damaged);
     }
-    if end < at {
-        return m.stop(Ending::Damaged);
-    }
-    let x = cells[base + at - 1];
-    if at == end {
-        if x == 1 {
-            return m.leave(frames, Machine::TRUE);
-        }
-        return m.stop(Ending::Damaged);
-    }
-    if at + 1 == end {
-        if x == 0 {
+    match (code.end - at, code.cell(cells, at)) {
+        (0, 1) => m.leave(frames, true),
+        (1, 0) => {
             if m.left == 0 {
                 return m.stop(Ending::Spent);
             }
-            return m.go(at, m.height).leave(frames, Machine::FALSE);
+            m.go(at, m.height).leave(frames, false)
         }
-        return m.stop(Ending::Damaged);
+        _ => m.stop(Ending::Damaged),
     }
-    m.stop(Ending::Damaged)
 }

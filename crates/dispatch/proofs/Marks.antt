@@ -8,7 +8,6 @@ use native.Mathlib.Omega.{arith}
 use native.Mathlib.Numerals.{add-one}
 use lib.Dec.{T}
 use lib.IntN.{ℤ, pos, negsuc, nat_abs, ◌-ℤ◌}
-use lib.ListN.{get_or}
 use lib.Signed.{lt_z, non_neg}
 use mir.Syntax.{w32, w64}
 use mir.Val.{SFits, Fits, to_z, of_z}
@@ -19,20 +18,21 @@ use Rattle.language.specs.Letters.{first_letter, last_letter, is_letter, letter_
 use Rattle.language.specs.Layout.{code_start}
 use Rattle.language.specs.Syntax.{Operator, operator}
 use Rattle.language.specs.Machine.{Decoded, damaged, code, operate_at, Kind, is_operator, cell, kind, mark, decode}
-use Rattle.language.specs.Tables.{table_from}
 use Rattle.language.proofs.Ints.{fits32}
 use Rattle.operands.specs.declared.Machine.{Machine}
-use Rattle.operands.specs.Operands.{byte_at, transfer_byte, byte_of}
+use Rattle.operands.specs.declared.Frame.{Frame}
+use Rattle.operands.specs.declared.cells.Code.{Code}
+use Rattle.operands.specs.declared.cells.Due.TheVariants.{Transfer}
+use Rattle.operands.specs.Operands.{table_in, byte_at, byte_of}
 use Rattle.operands.specs.Held.{Held}
 use Rattle.operands.specs.Turns.{decoded_as, mark_at, due_at, operator_turn}
 use Rattle.operands.specs.Ready.{Inside, Ready, Reading, Writing}
 use Rattle.operands.proofs.Operands.{byte_high}
-use Rattle.operands.proofs.Tables.{cell_at}
 use Rattle.operands.proofs.OperandsDecoding.{byte-early, code-decoded, low-decoded, none-kind}
 use Rattle.dispatch.specs.Turning.{Turning}
 
 -- the machine's numbers, wherever the due cell stands
-module _ {base end : ℕ} {m : Machine} {f o : List ℕ} (p : Turning base end m f o) where
+module _ {place : Code} {m : Machine} {f : List Frame} {o : List ℕ} (p : Turning place m f o) where
   pub ready : Ready m
   ready = record { height = p.height; cell = p.cell }
 
@@ -40,10 +40,10 @@ module _ {base end : ℕ} {m : Machine} {f o : List ℕ} (p : Turning base end m
   writing = record { height = p.height; cell = p.cell; written = p.written }
 
   -- the due cell stands before the last two
-  pub inside : m.at + 2 ≤ end → Inside base end m.at
-  inside early = record { cells = p.placed.cells; used = p.placed.used; first = p.first; early = early }
+  pub inside : m.at + 2 ≤ place.end → Inside place m.at
+  inside early = record { placed = p.placed; first = p.first; early = early }
 
-  pub reading : m.at + 2 ≤ end → Reading base end m
+  pub reading : m.at + 2 ≤ place.end → Reading place m
   reading early = record { inside = inside early; height = p.height; letter = p.letter }
 
 -- a number above 1 is above 0
@@ -53,37 +53,32 @@ above (negsuc n) h = absurd (false≢true h)
 
 -- ── the due cell, before the last two ───────────────────────────────────────────────────────────
 
--- the due cell, as the code reads it: 32 bits hold it
-abbrev pub due_cell : List ℤ → ℕ → ℕ → ℤ
-due_cell cells base at = get_or cells (base + at - 1) (pos 0)
-
+-- 32 bits hold it
 abbrev pub Held32 : ℤ → Type 0
 Held32 x = to_z w32 (of_z w32 x) ≡ x
 
-module _ (cells : List ℤ) {base end : ℕ} {m : Machine} {f o : List ℕ} (p : Turning base end m f o) (early : m.at + 2 ≤ end) where
-  pub due : cell (table_from cells base end) m.at ≡ due_cell cells base m.at
-  due = cell_at cells base end m.at _ (omega (arith, p.first)) (omega (arith, p.cell)) (omega (arith, p.first))
-
+-- the due cell holds x
+module _ (cells : List ℤ) {place : Code} {m : Machine} {f : List Frame} {o : List ℕ} (p : Turning place m f o) (early : m.at + 2 ≤ place.end)
+    (x : ℤ) (due : x ≡ cell (table_in cells place) m.at) (back : Held32 x) where
   -- a cell above 1 holds no byte
-  pub no_byte : Held32 (due_cell cells base m.at) → lt_z (pos 1) (to_z w32 (of_z w32 (due_cell cells base m.at))) ≡ true
-      → byte_at (table_from cells base end) m.at ≡ transfer_byte
-  no_byte back h = byte-early (table_from cells base end) m.at p.first early ∙ ap byte_of due ∙ sym (byte_high (due_cell cells base m.at) (above (due_cell cells base m.at) (rw back at h)))
+  pub no_byte : lt_z (pos 1) (to_z w32 (of_z w32 x)) ≡ true → byte_at (table_in cells place) m.at ≡ Transfer
+  no_byte h = byte-early (table_in cells place) m.at p.first early ∙ ap byte_of (sym due) ∙ sym (byte_high x (above x (rw back at h)))
 
 -- a turn goes by the mark's code, of which the due cell holds the key k
-module _ (h : Held) {base end : ℕ} {f o : List ℕ} (p : Turning base end h.machine f o) (early : h.machine.at + 2 ≤ end) (back : Held32 (due_cell h.cells base h.machine.at)) where
-  pub mark-due : (n k : ℕ) (d : Kind) → of_z w32 (due_cell h.cells base h.machine.at) ≡ k → to_z w32 k ≡ negsuc n → kind (suc n) ≡ d
-      → mark_at h.cells base end d h ≡ due_at h.cells base end h
+module _ (h : Held) {place : Code} {f : List Frame} {o : List ℕ} (p : Turning place h.machine f o) (early : h.machine.at + 2 ≤ place.end)
+    (x : ℤ) (due : x ≡ cell (table_in h.cells place) h.machine.at) (back : Held32 x) where
+  pub mark-due : (n k : ℕ) (d : Kind) → of_z w32 x ≡ k → to_z w32 k ≡ negsuc n → kind (suc n) ≡ d → mark_at h.cells place d h ≡ due_at h.cells place h
   mark-due n k d held z e =
       let q = h.machine.at in
       ap (λ (x : Decoded). decoded_as x h)
-      (ap (λ (x : Kind). mark (table_from h.cells base end) q x) (sym e)
-      ∙ sym (code-decoded (table_from h.cells base end) q n p.first early (due h.cells p early ∙ sym back ∙ ap (to_z w32) held ∙ z)))
+      (ap (λ (x : Kind). mark (table_in h.cells place) q x) (sym e)
+      ∙ sym (code-decoded (table_in h.cells place) q n p.first early (sym due ∙ sym back ∙ ap (to_z w32) held ∙ z)))
 
-  pub operator-due : (n k : ℕ) (x : Operator) → of_z w32 (due_cell h.cells base h.machine.at) ≡ k → to_z w32 k ≡ negsuc n → kind (suc n) ≡ is_operator x
-      → operator_turn x h ≡ due_at h.cells base end h
+  pub operator-due : (n k : ℕ) (y : Operator) → of_z w32 x ≡ k → to_z w32 k ≡ negsuc n → kind (suc n) ≡ is_operator y
+      → operator_turn y h ≡ due_at h.cells place h
   unfolding mark
-  operator-due n k x held z e =
-      ap (λ (q : ℕ). decoded_as (code (operate_at (operator x) q)) h) (add-one h.machine.at) ∙ mark-due n k (is_operator x) held z e
+  operator-due n k y held z e =
+      ap (λ (q : ℕ). decoded_as (code (operate_at (operator y) q)) h) (add-one h.machine.at) ∙ mark-due n k (is_operator y) held z e
 
 -- ── letters, and what is no code ────────────────────────────────────────────────────────────────
 

@@ -6,13 +6,14 @@ use arithmetic::{BinaryOperator, UnaryOperator};
 use instructions::stack;
 use instructions::stack::Access;
 use language::{
-    CONSTANT_CODE, COUNTS, Ending, HEIGHT, LETTERS, PRINT_CODE, STORE_CELLS, VARIABLES,
+    CONSTANT_CODE, COUNTS, Ending, HEIGHT, LETTERS, PRINT_CODE, STORE_CELLS, Table, VARIABLES,
 };
-use operands::{FRAMES, Machine};
+use operands::cells::Code;
+use operands::{Frame, Machine};
 use predicates::conditions::Condition;
 use predicates::{conditions, counters};
 
-// The marks' codes: their bytes, negated.
+// The marks' codes: their bytes, negated. No match on the byte itself, which is slower (docs/DECISIONS.md, 33).
 const ABSOLUTE: i32 = 0 - (b'A' as i32);
 
 const NEGATE: i32 = 0 - (b'M' as i32);
@@ -63,28 +64,27 @@ pub fn turn<'a>(
     used: &'a [usize; LETTERS],
     permissions: &'a [u32; LETTERS],
     role: u32,
-    base: usize,
-    end: usize,
+    code: Code,
     inputs: &[i32],
-    frames: &mut [u32; FRAMES],
+    frames: &mut [Frame; Table::CALLS],
     counts: &mut [u32; COUNTS],
     vars: &mut [i32; VARIABLES],
     list: &mut [i32; HEIGHT],
     output: &mut [u8],
 ) -> Machine
-    requires { Turning base end m frames.old output.old }
-    ensures { Turned base end
+    requires { Turning code m frames.old output.old }
+    ensures { Turned code
         (held m cells.now used.now permissions.now role inputs.now frames.old counts.old
         vars.old list.old output.old)
         (held result cells.now used.now permissions.now role inputs.now frames.new counts.new
         vars.new list.new output.new) }
 {
-    if end < m.at + 2 {
-        control::end_of(m, cells, base, end, frames)
+    if code.end < m.at + 2 {
+        control::end_of(m, cells, code, frames)
     } else {
-        let x = cells[base + m.at - 1];
+        let x = code.cell(cells, m.at);
         if 1 < x {
-            control::transfer(m, cells, base, end)
+            control::transfer(m, cells, code)
         } else {
             match x {
                 ABSOLUTE => arithmetic::unary(m, list, UnaryOperator::Absolute),
@@ -96,24 +96,23 @@ pub fn turn<'a>(
                 DISCARD => stack::discard(m, list),
                 COPY => stack::copy(m, list),
                 INPUT => stack::input(m, inputs, list),
-                FETCH => stack::variable(m, cells, base, end, vars, list, Access::Fetch),
-                SAVE => stack::variable(m, cells, base, end, vars, list, Access::Save),
-                CONSTANT => stack::constant(m, cells, base, end, list),
+                FETCH => stack::variable(m, cells, code, vars, list, Access::Fetch),
+                SAVE => stack::variable(m, cells, code, vars, list, Access::Save),
+                CONSTANT => stack::constant(m, cells, code, list),
                 WRITE => paper::output::write(m, list, output),
                 NEWLINE => paper::output::newline(m, output),
-                PRINT => paper::output::print(m, cells, base, end, output),
-                NEGATIVE => conditions::test(m, cells, base, end, list, Condition::Negative),
-                NULL => conditions::test(m, cells, base, end, list, Condition::Null),
-                EQUAL => conditions::test(m, cells, base, end, list, Condition::Equal),
-                COUNTER => counters::counter(m, cells, base, end, counts),
+                PRINT => paper::output::print(m, cells, code, output),
+                NEGATIVE => conditions::test(m, cells, code, list, Condition::Negative),
+                NULL => conditions::test(m, cells, code, list, Condition::Null),
+                EQUAL => conditions::test(m, cells, code, list, Condition::Equal),
+                COUNTER => counters::counter(m, cells, code, counts),
                 LAST_LETTER..=FIRST_LETTER => control::call(
                     m,
                     cells,
                     used,
                     permissions,
                     role,
-                    base,
-                    end,
+                    code,
                     frames,
                     (FIRST_LETTER - x) as usize,
                 ),

@@ -8,11 +8,11 @@ ghost use Rattle.instructions.specs.Accesses.{access_of};
 
 use language::{Ending, HEIGHT, STORE_CELLS, VARIABLES};
 use operands::Machine;
-use operands::cells::digit_at;
+use operands::cells::Code;
 use validation::is_value;
 
 // `F` and `S`.
-#[derive(Clone, Copy)]
+#[derive(Clone, Copy, Debug, PartialEq, Eq)]
 pub enum Access {
     Fetch,
     Save,
@@ -33,6 +33,7 @@ fn push(m: Machine, list: &mut [i32; HEIGHT], v: i32, at: usize) -> Machine
 }
 
 // The mark `L`.
+#[tactic(auto, unfolding(language::specs::Effects::perform))]
 pub fn discard(m: Machine, list: &mut [i32; HEIGHT]) -> Machine
     requires { Ready m }
     ensures { Turns (operator_turn discard) (stacked m list.old) (stacked result list.new) }
@@ -49,6 +50,7 @@ pub fn discard(m: Machine, list: &mut [i32; HEIGHT]) -> Machine
 }
 
 // The mark `P`.
+#[tactic(auto, unfolding(language::specs::Effects::perform))]
 pub fn copy(m: Machine, list: &mut [i32; HEIGHT]) -> Machine
     requires { Ready m }
     ensures { Turns (operator_turn copy) (stacked m list.old) (stacked result list.new) }
@@ -65,6 +67,7 @@ pub fn copy(m: Machine, list: &mut [i32; HEIGHT]) -> Machine
 }
 
 // The mark `I`: "25 before 22".
+#[tactic(auto, unfolding(language::specs::Effects::perform))]
 pub fn input(m: Machine, inputs: &[i32], list: &mut [i32; HEIGHT]) -> Machine
     requires { Ready m }
     ensures { Turns (operator_turn input) (fed m inputs.now list.old) (fed result inputs.now list.new) }
@@ -77,9 +80,7 @@ pub fn input(m: Machine, inputs: &[i32], list: &mut [i32; HEIGHT]) -> Machine
     if t < inputs.len() {
         if h < HEIGHT {
             list[h] = inputs[t];
-            let mut r = m;
-            r.taken = t + 1;
-            return r.go(m.at + 1, h + 1);
+            return Machine { taken: t + 1, ..m }.go(m.at + 1, h + 1);
         }
         return m.stop(Ending::ListFull);
     }
@@ -90,46 +91,41 @@ pub fn input(m: Machine, inputs: &[i32], list: &mut [i32; HEIGHT]) -> Machine
 pub fn constant(
     m: Machine,
     cells: &[i32; STORE_CELLS],
-    base: usize,
-    end: usize,
+    code: Code,
     list: &mut [i32; HEIGHT],
 ) -> Machine
-    requires { Reading base end m }
-    ensures { Turns (mark_at cells.now base end is_constant) (stacked m list.old) (stacked result list.new) }
+    requires { Reading code m }
+    ensures { Turns (mark_at cells.now code is_constant) (stacked m list.old) (stacked result list.new) }
 {
-    let at = m.at;
-    if end < at + 3 {
+    let Some(v) = code.second_cell(cells, m.at) else {
         return m.stop(Ending::Damaged);
-    }
-    let v = cells[base + at];
+    };
     if !is_value(v) {
         return m.stop(Ending::Damaged);
     }
     if m.left == 0 {
         return m.stop(Ending::Spent);
     }
-    push(m, list, v, at + 2)
+    push(m, list, v, m.at + 2)
 }
 
 // The marks `F` and `S`.
 pub fn variable(
     m: Machine,
     cells: &[i32; STORE_CELLS],
-    base: usize,
-    end: usize,
+    code: Code,
     vars: &mut [i32; VARIABLES],
     list: &mut [i32; HEIGHT],
     a: Access,
 ) -> Machine
-    requires { Reading base end m }
-    ensures { Turns (mark_at cells.now base end (is_variable (access_of a)))
+    requires { Reading code m }
+    ensures { Turns (mark_at cells.now code (is_variable (access_of a)))
         (storing m vars.old list.old) (storing result vars.new list.new) }
 {
     let at = m.at;
-    let d = digit_at(cells, base, end, at);
-    if d == 0 {
+    let Some(d) = code.digit_at(cells, at) else {
         return m.stop(Ending::Damaged);
-    }
+    };
     if m.left == 0 {
         return m.stop(Ending::Spent);
     }

@@ -10,7 +10,7 @@ use Rattle.language.specs.declared.Ending.TheVariants.{Spent}
 use Rattle.language.specs.Letters.{letter_index}
 use Rattle.language.specs.Roles.{steward_permission, cashier_role, bars}
 use Rattle.language.specs.Machine.{Instruction, transfer, fail, operate_at, test_at, call_at, Decoded, last, damaged, code, decode}
-use Rattle.language.specs.Tables.{table_from, decode_at, stands_at, barred_at, execute}
+use Rattle.language.specs.Tables.{decode_at, stands_at, barred_at, execute}
 use Rattle.book.specs.declared.Refusal.{Refusal}
 use Rattle.book.specs.Calls.{Run, runs}
 use Rattle.book.specs.Replies.{reported, tells}
@@ -21,7 +21,8 @@ use Rattle.book.specs.Demand3.{Always}
 use Rattle.book.proofs.Refusals.{refusal-refuses, free-run}
 use Rattle.book.proofs.Demand3.{history, always, permissions-after}
 use Rattle.operands.specs.Loop.{Configuration, Turn, continues, enters, finishes, halt, instruction_turn, decoded_turn}
-use Rattle.interpreter.specs.declared.cycle.Fetched.{Fetched}
+use Rattle.operands.specs.declared.cells.Code.{Code}
+use Rattle.operands.specs.Operands.{table_in}
 use Rattle.interpreter.specs.Fetching.{fetched, Point, Progress, next, over, turn_by, proceeds, turned_on, course, comes_to, starts_at, leaves, on_turn, goes_on}
 use Rattle.interpreter.specs.Claims.{PairStored, GoOnAlike, turns_of, AnswersRemain, ObeysNone}
 use Rattle.interpreter.proofs.Allowed.{Allowed, AllowedTurn, decoded-allowed}
@@ -35,7 +36,7 @@ Paired u (next s) = s.pair ≡ fetched u s.configuration.letter
 Paired u (over o) = Unit {0}
 
 module _ (c : List ℤ) (u k : List ℕ) (r : ℕ) where
-  turn-paired : (p : Fetched) (l : ℕ) (t : Turn) → p ≡ fetched u l → Stays l t → Paired u (proceeds c u k r p t)
+  turn-paired : (p : Code) (l : ℕ) (t : Turn) → p ≡ fetched u l → Stays l t → Paired u (proceeds c u k r p t)
   turn-paired p l (continues m) e k = e ∙ ap (fetched u) (sym k)
   turn-paired p l (enters m) e k = refl
   turn-paired p l (finishes o) e k = tt
@@ -43,7 +44,7 @@ module _ (c : List ℤ) (u k : List ℕ) (r : ℕ) where
   on-paired : (x : Progress) → Paired u x → Paired u (turned_on c u k r x)
   on-paired (next s) e =
       let p = s.pair in
-      turn-paired p s.configuration.letter (turn_by c u k r p s.configuration) e (decoded-stays (stands_at u) (barred_at k r) (decode (table_from c p.base p.end) s.configuration.cell) s.configuration)
+      turn-paired p s.configuration.letter (turn_by c u k r p s.configuration) e (decoded-stays (stands_at u) (barred_at k r) (decode (table_in c p) s.configuration.cell) s.configuration)
   on-paired (over o) e = tt
 
   course-paired : (n : ℕ) (m : Configuration) → Paired u (course c u k r n m)
@@ -82,7 +83,7 @@ go-on-alike c u v k r p zero m = refl
 go-on-alike c u v k r p (suc n) m = go (leaves d) refl (on_alike (goes_on c u k r p n) (goes_on c v k r p n) (go-on-alike c u v k r p n) (turn_by c v k r p m))
   where
     d : Decoded
-    d = decode (table_from c p.base p.end) m.cell
+    d = decode (table_in c p) m.cell
 
     go : (b : Bool) → leaves d ≡ b → on_turn (turn_by c v k r p m) (goes_on c u k r p n) ≡ on_turn (turn_by c v k r p m) (goes_on c v k r p n)
         → cond b (continues m) (on_turn (turn_by c u k r p m) (goes_on c u k r p n)) ≡ cond b (continues m) (on_turn (turn_by c v k r p m) (goes_on c v k r p n))
@@ -92,7 +93,7 @@ go-on-alike c u v k r p (suc n) m = go (leaves d) refl (on_alike (goes_on c u k 
 -- ── answers ─────────────────────────────────────────────────────────────────────────────────────
 
 module _ (c : List ℤ) (u k : List ℕ) (r : ℕ) where
-  turn-comes : (p : Fetched) (t : Turn) → comes_to c u k r (proceeds c u k r p t) ≡ after (decode_at c u) (stands_at u) (barred_at k r) t
+  turn-comes : (p : Code) (t : Turn) → comes_to c u k r (proceeds c u k r p t) ≡ after (decode_at c u) (stands_at u) (barred_at k r) t
   unfolding after run_at
   turn-comes p (continues m) = refl
   turn-comes p (enters m) = refl
@@ -104,7 +105,7 @@ module _ (c : List ℤ) (u k : List ℕ) (r : ℕ) where
   on-comes (next s) e =
       let m = s.configuration in
       turn-comes s.pair (turn_by c u k r s.pair m)
-      ∙ ap (λ (p : Fetched). after (decode_at c u) (stands_at u) (barred_at k r) (turn_by c u k r p m)) e
+      ∙ ap (λ (p : Code). after (decode_at c u) (stands_at u) (barred_at k r) (turn_by c u k r p m)) e
       ∙ sym (turn-run (decode_at c u) (stands_at u) (barred_at k r) m)
 
   course-comes : (j : ℕ) (m : Configuration) → comes_to c u k r (course c u k r j m) ≡ comes_to c u k r (course c u k r zero m)
@@ -144,7 +145,7 @@ AllowedProgress barred (next s) = Allowed barred s.configuration
 AllowedProgress barred (over o) = Unit {0}
 
 module _ (c : List ℤ) (u k : List ℕ) (r : ℕ) where
-  proceeds-allowed : (p : Fetched) (t : Turn) → AllowedTurn (barred_at k r) t → AllowedProgress (barred_at k r) (proceeds c u k r p t)
+  proceeds-allowed : (p : Code) (t : Turn) → AllowedTurn (barred_at k r) t → AllowedProgress (barred_at k r) (proceeds c u k r p t)
   proceeds-allowed p (continues m) h = h
   proceeds-allowed p (enters m) h = h
   proceeds-allowed p (finishes o) h = tt
@@ -153,7 +154,7 @@ module _ (c : List ℤ) (u k : List ℕ) (r : ℕ) where
   on-allowed (next s) h =
       let p = s.pair in
       proceeds-allowed p (turn_by c u k r p s.configuration)
-      (decoded-allowed (barred_at k r) (stands_at u) (decode (table_from c p.base p.end) s.configuration.cell) s.configuration h)
+      (decoded-allowed (barred_at k r) (stands_at u) (decode (table_in c p) s.configuration.cell) s.configuration h)
   on-allowed (over o) h = tt
 
   course-allowed : (n : ℕ) (m : Configuration) → Allowed (barred_at k r) m → AllowedProgress (barred_at k r) (course c u k r n m)

@@ -5,24 +5,24 @@ use mathlib.Core.List.{List, [], ◌∷◌}
 use Prim.Native.Nat.{ℕ, zero, suc, ◌+◌, ◌≤◌, ◌<◌}
 use native.Mathlib.Nat.{le_refl}
 use native.Mathlib.Omega.{arith}
-use lib.Dec.{eqb, ltb}
+use lib.Dec.{ltb}
 use lib.IntN.{ℤ}
 use lib.ListN.{length, get_or}
-use borrow.Author.Tests.{ltb-true, ltb-false, lt-ltb, eq-eqb, ne_eqb, eqb-true, eqb-false}
-use Rattle.language.specs.declared.Ending.TheVariants.{StewardCall}
-use Rattle.language.specs.Answers.{ending_number}
-use Rattle.language.specs.Limits.{max_letters}
+use borrow.Author.Tests.{ltb-true, ltb-false, eq-eqb}
+use Rattle.language.specs.Limits.{max_letters, max_calls}
 use Rattle.language.specs.Meaning.{Outcome, ended, stopped}
 use Rattle.language.specs.Statements.{Lent}
 use Rattle.language.specs.Tables.{decode_at, stands_at, barred_at}
 use Rattle.book.specs.Replies.{replied, reported}
 use Rattle.operands.specs.declared.Machine.{Machine}
 use Rattle.operands.specs.Loop.{Turn, continues, enters, finishes}
-use Rattle.operands.specs.Held.{Held, frame_numbers, state_of, configuration_of, ending_of, outcome, on_machine, with_state}
+use Rattle.operands.specs.declared.Status.{Status}
+use Rattle.operands.specs.declared.Status.TheVariants.{Goes, Enters, Over, Stopped}
+use Rattle.operands.specs.Held.{Held, state_of, configuration_of, turned as turned_as, outcome, on_machine, with_status}
 use Rattle.operands.specs.Turns.{due_at}
-use Rattle.operands.proofs.Held.{length-frames, ending-known, ending-high}
-use Rattle.interpreter.specs.declared.cycle.Fetched.{Fetched}
-use Rattle.interpreter.specs.Runs.{Counted, report_from, Driven}
+use Rattle.operands.proofs.Held.{length-frames}
+use Rattle.operands.specs.declared.cells.Code.{Code}
+use Rattle.interpreter.specs.Runs.{Counted, report_of, report_from, was_stopped, Driven}
 use Rattle.interpreter.specs.Fetching.{fetched}
 use Rattle.interpreter.proofs.Cells.{decode-within}
 use Rattle.interpreter.proofs.Allowed.{Allowed, AllowedTurn, decoded-allowed}
@@ -34,26 +34,26 @@ pub record Looping (n : ℕ) (o : List ℕ) (r : Outcome) (h : Held) : Type 0 wh
   pub comes : after (decode_at h.cells h.used) (stands_at h.used) (barred_at h.permissions h.role) (outcome h) ≡ r
   pub kept : Kept n o (outcome h)
   pub allowed : AllowedTurn (barred_at h.permissions h.role) (outcome h)
-  pub size : length h.frames ≡ frame_numbers
+  pub size : length h.frames ≡ max_calls
 
 -- the same where the code does not go on: it enters a letter's code, or the run is over
 pub record Entering (n : ℕ) (o : List ℕ) (r : Outcome) (h : Held) : Type 0 where
   pub loop : Looping n o r h
-  pub between : h.machine.state ≡ 0 → ⊥
+  pub between : h.machine.status ≡ Goes → ⊥
 
 -- the code goes on
-going : (h : Held) → h.machine.state ≡ 0 → outcome h ≡ continues (configuration_of h)
-going h e = rw (eq-eqb _ _ e)
+going : (h : Held) → h.machine.status ≡ Goes → outcome h ≡ continues (configuration_of h)
+going h e = rw e
 
 -- it enters a letter's code
-entering : (h : Held) → h.machine.state ≡ 3 → outcome h ≡ enters (configuration_of h)
+entering : (h : Held) → h.machine.status ≡ Enters → outcome h ≡ enters (configuration_of h)
 entering h e = rw e
 
 -- and goes on there
 abbrev pub resuming : Held → Held
-resuming h = on_machine (with_state h.machine 0) h
+resuming h = on_machine (with_status h.machine Goes) h
 
-pub resume : (n : ℕ) (o : List ℕ) (r : Outcome) (h : Held) → Looping n o r h → h.machine.state ≡ 3 → Looping n o r (resuming h)
+pub resume : (n : ℕ) (o : List ℕ) (r : Outcome) (h : Held) → Looping n o r h → h.machine.status ≡ Enters → Looping n o r (resuming h)
 unfolding after
 resume n o r h loop e =
     record {
@@ -70,11 +70,11 @@ kept_of n o g (finishes (ended t s r)) h = h
 kept_of n o g (finishes (stopped k s r)) h = h
 
 -- where it goes on, the configuration fits
-pub fit_of : (n : ℕ) (o : List ℕ) (h : Held) → h.machine.state ≡ 0 → Kept n o (outcome h) → Fit n o (configuration_of h)
+pub fit_of : (n : ℕ) (o : List ℕ) (h : Held) → h.machine.status ≡ Goes → Kept n o (outcome h) → Fit n o (configuration_of h)
 fit_of n o h e k = subst (λ (t : Turn). Kept n o t) (going h e) k
 
 -- and its letter is for the caller
-pub allowed_of : (n : ℕ) (o : List ℕ) (r : Outcome) (h : Held) → Looping n o r h → h.machine.state ≡ 0 → Allowed (barred_at h.permissions h.role) (configuration_of h)
+pub allowed_of : (n : ℕ) (o : List ℕ) (r : Outcome) (h : Held) → Looping n o r h → h.machine.status ≡ Goes → Allowed (barred_at h.permissions h.role) (configuration_of h)
 allowed_of n o r h loop e = subst (λ (t : Turn). AllowedTurn (barred_at h.permissions h.role) t) (going h e) loop.allowed
 
 beyond : (u : List ℕ) (a : ℕ) → length u ≤ a → get_or u a 0 ≡ 0
@@ -94,28 +94,31 @@ standing u e a s = go (ltb a max_letters) refl
         absurd (omega arith)
 
 -- what falls: nothing is left once the run is over
-abbrev going_on : ℕ → Bool
-going_on k = cond (eqb k 0) true (eqb k 3)
+abbrev going_on : Status → Bool
+going_on Goes = true
+going_on Enters = true
+going_on (Over t) = false
+going_on (Stopped e) = false
 
 unfoldable pub left_over : Machine → ℕ
-left_over m = cond (going_on m.state) (suc (m.left + m.left + m.depth)) 0
+left_over m = cond (going_on m.status) (suc (m.left + m.left + m.depth)) 0
 
 -- it is the same where a letter's code is entered and then gone on with
-pub left-resumed : (m : Machine) → m.state ≡ 3 → left_over (with_state m 0) ≡ left_over m
+pub left-resumed : (m : Machine) → m.status ≡ Enters → left_over (with_status m Goes) ≡ left_over m
 unfolding left_over
 left-resumed m e = rw e
 
 -- ── a turn ──────────────────────────────────────────────────────────────────────────────────────
 
-module _ (n : ℕ) (o : List ℕ) (r : Outcome) (h : Held) (h' : Held) (p : Fetched) (loop : Looping n o r h) (goes : h.machine.state ≡ 0)
-    (pair : p ≡ fetched h.used h.machine.letter) (turned_by : outcome h' ≡ due_at h.cells p.base p.end h)
+module _ (n : ℕ) (o : List ℕ) (r : Outcome) (h : Held) (h' : Held) (p : Code) (loop : Looping n o r h) (goes : h.machine.status ≡ Goes)
+    (pair : p ≡ fetched h.used h.machine.letter) (turned_by : outcome h' ≡ due_at h.cells p h)
     (letters : length h.used ≡ max_letters) (counted : Counted h.used) where
   -- over the pair of the letter's table, it is the table machine's turn
   turned : outcome h' ≡ one_turn (decode_at h.cells h.used) (stands_at h.used) (barred_at h.permissions h.role) (configuration_of h)
-  turned = turned_by ∙ ap (λ (x : Fetched). due_at h.cells x.base x.end h) pair
+  turned = turned_by ∙ ap (λ (x : Code). due_at h.cells x h) pair
 
   -- the letter is the same where the code goes on, so the pair is its
-  pub same-pair : h'.machine.state ≡ 0 → p ≡ fetched h.used h'.machine.letter
+  pub same-pair : h'.machine.status ≡ Goes → p ≡ fetched h.used h'.machine.letter
   same-pair e =
       let d = decode_at h.cells h.used h.machine.letter h.machine.at in
       let k : h'.machine.letter ≡ h.machine.letter = subst (λ (t : Turn). Stays h.machine.letter t) (sym turned ∙ going h' e) (decoded-stays (stands_at h.used) (barred_at h.permissions h.role) d (configuration_of h)) in
@@ -143,7 +146,7 @@ module _ (n : ℕ) (o : List ℕ) (r : Outcome) (h : Held) (h' : Held) (p : Fetc
       (allowed_of n o r h loop goes))
 
   -- it is kept
-  pub again : h'.cells ≡ h.cells → h'.used ≡ h.used → h'.permissions ≡ h.permissions → h'.role ≡ h.role → length h'.frames ≡ frame_numbers → Looping n o r h'
+  pub again : h'.cells ≡ h.cells → h'.used ≡ h.used → h'.permissions ≡ h.permissions → h'.role ≡ h.role → length h'.frames ≡ max_calls → Looping n o r h'
   again c u k w f =
       record {
         comes = rw (c, u, k, w) comes-again;
@@ -155,35 +158,41 @@ module _ (n : ℕ) (o : List ℕ) (r : Outcome) (h : Held) (h' : Held) (p : Fetc
   -- and less is left
   pub falls : left_over h'.machine < left_over h.machine
   unfolding left_over
-  falls = rw (eq-eqb _ _ goes) (go (eqb h'.machine.state 0) (eqb h'.machine.state 3) refl refl)
+  falls = rw goes (go h'.machine.status refl)
     where
       less : to_go (configuration_of h') < to_go (configuration_of h)
           → suc (h'.machine.left + h'.machine.left + h'.machine.depth) < suc (h.machine.left + h.machine.left + h.machine.depth)
       less k = omega (arith, length-frames h.frames h.machine.depth, length-frames h'.frames h'.machine.depth)
 
-      go : (u v : Bool) → eqb h'.machine.state 0 ≡ u → eqb h'.machine.state 3 ≡ v
-          → cond (cond u true v) (suc (h'.machine.left + h'.machine.left + h'.machine.depth)) 0 < suc (h.machine.left + h.machine.left + h.machine.depth)
-      go true v q w = less (subst (λ (t : Turn). Sound n o (to_go (configuration_of h)) t) (going h' (eqb-true _ _ q)) sound).1
-      go false true q w = less (subst (λ (t : Turn). Sound n o (to_go (configuration_of h)) t) (entering h' (eqb-true _ _ w)) sound).1
-      go false false q w = omega arith
+      go : (s : Status) → h'.machine.status ≡ s
+          → cond (going_on s) (suc (h'.machine.left + h'.machine.left + h'.machine.depth)) 0 < suc (h.machine.left + h.machine.left + h.machine.depth)
+      go Goes q = less (subst (λ (t : Turn). Sound n o (to_go (configuration_of h)) t) (going h' q) sound).1
+      go Enters q = less (subst (λ (t : Turn). Sound n o (to_go (configuration_of h)) t) (entering h' q) sound).1
+      go (Over t) q = omega arith
+      go (Stopped e) q = omega arith
 
 -- ── the turns over one table ────────────────────────────────────────────────────────────────────
 
 -- from h₀ on, where the pair p was fetched: what was kept is kept, the pair is that of the letter, and less is left once the code does not go on
-pub record Stretch (h₀ : Held) (p : Fetched) (h : Held) : Type 0 where
+pub record Stretch (h₀ : Held) (p : Code) (h : Held) : Type 0 where
   pub keeps : (n : ℕ) (o : List ℕ) (r : Outcome) → Looping n o r h₀ → Looping n o r h
-  pub pair : h.machine.state ≡ 0 → p ≡ fetched h.used h.machine.letter
+  pub pair : h.machine.status ≡ Goes → p ≡ fetched h.used h.machine.letter
   pub most : left_over h.machine ≤ left_over h₀.machine
-  pub fewer : (h.machine.state ≡ 0 → ⊥) → left_over h.machine < left_over h₀.machine
+  pub fewer : (h.machine.status ≡ Goes → ⊥) → left_over h.machine < left_over h₀.machine
+
+-- while the code goes on, the configuration fits
+pub stretch-fit : {n : ℕ} {o : List ℕ} {r : Outcome} {h₀ : Held} {p : Code} {h : Held} → Stretch h₀ p h → Looping n o r h₀ → h.machine.status ≡ Goes
+    → Fit n o (configuration_of h)
+stretch-fit {n} {o} {r} {h₀} {p} {h} st loop e = fit_of n o h e (st.keeps n o r loop).kept
 
 -- at its start
-pub stretch-none : (h : Held) (p : Fetched) → h.machine.state ≡ 0 → p ≡ fetched h.used h.machine.letter → Stretch h p h
+pub stretch-none : (h : Held) (p : Code) → h.machine.status ≡ Goes → p ≡ fetched h.used h.machine.letter → Stretch h p h
 stretch-none h p z e = record { keeps = λ n o r l. l; pair = λ _. e; most = le_refl _; fewer = λ w. absurd (w z) }
 
 -- and after one more turn
-pub stretch-more : (n : ℕ) (o : List ℕ) (r : Outcome) (h₀ : Held) (p : Fetched) (h h' : Held) → Stretch h₀ p h → Looping n o r h → h.machine.state ≡ 0
-    → outcome h' ≡ due_at h.cells p.base p.end h → length h.used ≡ max_letters → Counted h.used
-    → h'.cells ≡ h.cells → h'.used ≡ h.used → h'.permissions ≡ h.permissions → h'.role ≡ h.role → length h'.frames ≡ frame_numbers → Stretch h₀ p h'
+pub stretch-more : (n : ℕ) (o : List ℕ) (r : Outcome) (h₀ : Held) (p : Code) (h h' : Held) → Stretch h₀ p h → Looping n o r h → h.machine.status ≡ Goes
+    → outcome h' ≡ due_at h.cells p h → length h.used ≡ max_letters → Counted h.used
+    → h'.cells ≡ h.cells → h'.used ≡ h.used → h'.permissions ≡ h.permissions → h'.role ≡ h.role → length h'.frames ≡ max_calls → Stretch h₀ p h'
 stretch-more n o r h₀ p h h' st loop z turned letters counted c u k w f =
     let e = st.pair z in
     let l = falls n o r h h' p loop z e turned letters counted in
@@ -196,71 +205,43 @@ stretch-more n o r h₀ p h h' st loop z turned letters counted c u k w f =
 
 -- ── the end ─────────────────────────────────────────────────────────────────────────────────────
 
-module _ (n : ℕ) (o : List ℕ) (r : Outcome) (h : Held) (loop : Looping n o r h) (over : h.machine.state ≡ 0 → ⊥) (outside : h.machine.state ≡ 3 → ⊥) where
-  abbrev ending : Bool → Bool → Turn
-  ending a b =
-      cond a (finishes (ended true (state_of h) h.machine.left))
-      (cond b (finishes (ended false (state_of h) h.machine.left))
-      (finishes (stopped (ending_of h.machine.state) (state_of h) h.machine.left)))
+-- a status of a run that is over
+abbrev pub Ends : Status → Type 0
+Ends s = (s ≡ Goes → ⊥) × (s ≡ Enters → ⊥)
 
-  ended-as : outcome h ≡ ending (eqb h.machine.state 1) (eqb h.machine.state 2)
-  ended-as = rw (ne_eqb _ _ over, ne_eqb _ _ outside)
-
-  kept-as : Kept n o (ending (eqb h.machine.state 1) (eqb h.machine.state 2))
-  kept-as = subst (λ (t : Turn). Kept n o t) ended-as loop.kept
-
+module _ (n : ℕ) (o : List ℕ) (r : Outcome) (h : Held) (loop : Looping n o r h) (over : h.machine.status ≡ Goes → ⊥) (outside : h.machine.status ≡ Enters → ⊥) where
   -- the list and the output are as a run leaves them
   pub lent : Lent o (state_of h)
-  lent = go (eqb h.machine.state 1) (eqb h.machine.state 2) kept-as
+  lent = go h.machine.status (over, outside) loop.kept
     where
-      go : (a b : Bool) → Kept n o (ending a b) → Lent o (state_of h)
-      go true b k = k.lent
-      go false true k = k.lent
-      go false false k = k.0.lent
+      go : (s : Status) → Ends s → Kept n o (turned_as s (configuration_of h)) → Lent o (state_of h)
+      go Goes e k = absurd (e.0 refl)
+      go Enters e k = absurd (e.1 refl)
+      go (Over t) e k = k.lent
+      go (Stopped x) e k = k.0.lent
 
   left_le : h.machine.left ≤ n
-  left_le = go (eqb h.machine.state 1) (eqb h.machine.state 2) kept-as
+  left_le = go h.machine.status (over, outside) loop.kept
     where
-      go : (a b : Bool) → Kept n o (ending a b) → h.machine.left ≤ n
-      go true b k = k.left
-      go false true k = k.left
-      go false false k = k.0.left
-
-  -- a state above 2 is the number of the ending
-  known : 2 < h.machine.state → ending_number (ending_of h.machine.state) ≡ h.machine.state
-  known l = go (eqb h.machine.state 1) (eqb h.machine.state 2) refl refl kept-as
-    where
-      go : (a b : Bool) → eqb h.machine.state 1 ≡ a → eqb h.machine.state 2 ≡ b → Kept n o (ending a b)
-          → ending_number (ending_of h.machine.state) ≡ h.machine.state
-      go true b p q k = let e : h.machine.state ≡ 1 = eqb-true _ _ p in absurd (omega arith)
-      go false true p q k = let e : h.machine.state ≡ 2 = eqb-true _ _ q in absurd (omega arith)
-      go false false p q k = ending-known h.machine.state k.1
-
-  state-le : h.machine.state ≤ ending_number StewardCall
-  state-le = go (ltb 2 h.machine.state) refl
-    where
-      go : (u : Bool) → ltb 2 h.machine.state ≡ u → h.machine.state ≤ ending_number StewardCall
-      go true e = omega (arith, known (ltb-true _ _ e), ending-high (ending_of h.machine.state))
-      go false e = omega (arith, ltb-false 2 h.machine.state e)
+      go : (s : Status) → Ends s → Kept n o (turned_as s (configuration_of h)) → h.machine.left ≤ n
+      go Goes e k = absurd (e.0 refl)
+      go Enters e k = absurd (e.1 refl)
+      go (Over t) e k = k.left
+      go (Stopped x) e k = k.0.left
 
   reply : (v : List ℤ)
-      → replied (report_from n h.machine) h.stack h.output (cond (ltb 2 h.machine.state) v h.variables) ≡ reported v n r
+      → replied (report_from n h.machine) h.stack h.output (cond (was_stopped h.machine.status) v h.variables) ≡ reported v n r
   unfolding after reported
-  reply v =
-      go (eqb h.machine.state 1) (eqb h.machine.state 2) refl refl
-      ∙ ap (λ (x : Outcome). reported v n x) (sym (ap (λ (t : Turn). after (decode_at h.cells h.used) (stands_at h.used) (barred_at h.permissions h.role) t) ended-as) ∙ loop.comes)
+  reply v = go h.machine.status (over, outside) ∙ ap (λ (x : Outcome). reported v n x) loop.comes
     where
-      go : (a b : Bool) → eqb h.machine.state 1 ≡ a → eqb h.machine.state 2 ≡ b
-          → replied (report_from n h.machine) h.stack h.output (cond (ltb 2 h.machine.state) v h.variables)
-          ≡ reported v n (after (decode_at h.cells h.used) (stands_at h.used) (barred_at h.permissions h.role) (ending a b))
-      go true b p q = let k : h.machine.state ≡ 1 = eqb-true _ _ p in rw k
-      go false true p q = let k : h.machine.state ≡ 2 = eqb-true _ _ q in rw k
-      go false false p q =
-          let a : h.machine.state ≡ 1 → ⊥ = eqb-false _ _ p in
-          let b : h.machine.state ≡ 2 → ⊥ = eqb-false _ _ q in
-          let l : 2 < h.machine.state = omega arith in
-          rw (lt-ltb 2 h.machine.state l, p, known l)
+      go : (s : Status) → Ends s
+          → replied (report_of s n h.machine) h.stack h.output (cond (was_stopped s) v h.variables)
+          ≡ reported v n (after (decode_at h.cells h.used) (stands_at h.used) (barred_at h.permissions h.role) (turned_as s (configuration_of h)))
+      go Goes e = absurd (e.0 refl)
+      go Enters e = absurd (e.1 refl)
+      go (Over t) e = refl
+      go (Stopped x) e = refl
 
   -- what the end says
   pub driven : Driven n r h.machine h.variables h.stack h.output
-  driven = record { over = record { left = left_le; state = state-le }; reply = reply }
+  driven = record { left = left_le; reply = reply }

@@ -9,7 +9,7 @@ use Rattle.book.specs.Store.{Store, store_call}
 use Rattle.book.specs.History.{History, standing, permission_of}
 use Rattle.book.specs.Demand3.{run_after}
 use Rattle.operands.specs.Loop.{Configuration}
-use Rattle.interpreter.specs.declared.cycle.Fetched.{Fetched}
+use Rattle.operands.specs.declared.cells.Code.{Code}
 use Rattle.interpreter.specs.Fetching.{fetched, Point, Progress, next, course, comes_to, starts_at, goes_on}
 
 -- "before every mark the fetched pair is the store's for the letter then obeyed". For any store and any run, from any configuration. proofs/Claims `pair-stored`
@@ -20,7 +20,7 @@ PairStored =
 -- "Two stores that differ only in used-cell counts, given the same pair at the same point of otherwise equal runs, go on alike until a call or return is
 -- due." proofs/Claims `go-on-alike`
 abbrev pub GoOnAlike : Type 0
-GoOnAlike = (c : List ℤ) (u v k : List ℕ) (r : ℕ) (p : Fetched) (n : ℕ) (m : Configuration) → goes_on c u k r p n m ≡ goes_on c v k r p n m
+GoOnAlike = (c : List ℤ) (u v k : List ℕ) (r : ℕ) (p : Code) (n : ℕ) (m : Configuration) → goes_on c u k r p n m ≡ goes_on c v k r p n m
 
 -- a run x of the store st after n turns, each of them a mark obeyed or a return: the letter and the cell that are next, or what the run came to
 abbrev pub turns_of : Store → Run → ℕ → Progress

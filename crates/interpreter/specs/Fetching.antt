@@ -6,20 +6,22 @@ use Rattle.language.specs.Layout.{code_start}
 use Rattle.language.specs.Effects.{start}
 use Rattle.language.specs.Meaning.{Outcome}
 use Rattle.language.specs.Machine.{Decoded, last, damaged, code, transfer, fail, operate_at, test_at, call_at, decode, arrive, run}
-use Rattle.language.specs.Tables.{table_from, decode_at, stands_at, barred_at}
+use Rattle.language.specs.Tables.{decode_at, stands_at, barred_at}
 use Rattle.operands.specs.declared.Machine.{Machine}
+use Rattle.operands.specs.declared.Frame.{Frame}
+use Rattle.operands.specs.Operands.{table_in}
 use Rattle.operands.specs.Loop.{Configuration, configuration, Turn, continues, enters, finishes, decoded_turn}
 use Rattle.dispatch.specs.Turning.{Turning}
-use Rattle.interpreter.specs.declared.cycle.Fetched.{Fetched}
+use Rattle.operands.specs.declared.cells.Code.{Code}
 
 -- what is fetched of letter a: where its cells start, and its count of the used-cell counts u
-abbrev pub fetched : List ℕ → ℕ → Fetched
+abbrev pub fetched : List ℕ → ℕ → Code
 fetched u a = record { base = a * max_cells; end = get_or u a 0 }
 
 -- A mark can be obeyed: a turn can be made over the table that was fetched, "the fetched pair is the store's for the letter then obeyed", and that letter,
 -- by its permission of the permissions k, is for a caller with the role r (document 02, U7).
-pub record Obeying (u k : List ℕ) (r : ℕ) (p : Fetched) (m : Machine) (f o : List ℕ) : Type 0 where
-  pub turning : Turning p.base p.end m f o
+pub record Obeying (u k : List ℕ) (r : ℕ) (p : Code) (m : Machine) (f : List Frame) (o : List ℕ) : Type 0 where
+  pub turning : Turning p m f o
   pub pair : p ≡ fetched u m.letter
   pub allowed : barred_at k r m.letter ≡ false
 
@@ -27,7 +29,7 @@ pub record Obeying (u k : List ℕ) (r : ℕ) (p : Fetched) (m : Machine) (f o :
 
 -- what the runner holds before a mark: the fetched pair, and where the run stands
 pub record Point : Type 0 where
-  pub pair : Fetched
+  pub pair : Code
   pub configuration : Configuration
 
 -- a mark is next, or the run is over
@@ -38,15 +40,15 @@ pub data Progress : Type 0 where
 -- over a store with the cells c, the used-cell counts u and the permissions k, for a caller with the role r
 module _ (c : List ℤ) (u k : List ℕ) (r : ℕ) where
   -- the turn at the due cell of the table that was fetched
-  abbrev pub turn_by : Fetched → Configuration → Turn
-  turn_by p m = decoded_turn (stands_at u) (barred_at k r) (decode (table_from c p.base p.end) m.cell) m
+  abbrev pub turn_by : Code → Configuration → Turn
+  turn_by p m = decoded_turn (stands_at u) (barred_at k r) (decode (table_in c p) m.cell) m
 
   -- a letter's code is entered: its pair is fetched
   abbrev pub entered : Configuration → Progress
   entered m = next (record { pair = fetched u m.letter; configuration = m })
 
   -- after a turn: "at a call and at a return, and nowhere between"
-  abbrev pub proceeds : Fetched → Turn → Progress
+  abbrev pub proceeds : Code → Turn → Progress
   proceeds p (continues m) = next (record { pair = p; configuration = m })
   proceeds p (enters m) = entered m
   proceeds p (finishes o) = over o
@@ -91,7 +93,7 @@ on_turn (enters m) k = enters m
 on_turn (finishes o) k = finishes o
 
 -- over a store, with the pair p: at most n turns from a configuration, until a call or a return is due
-unfoldable pub goes_on : List ℤ → List ℕ → List ℕ → ℕ → Fetched → ℕ → Configuration → Turn
+unfoldable pub goes_on : List ℤ → List ℕ → List ℕ → ℕ → Code → ℕ → Configuration → Turn
 goes_on c u k r p zero m = continues m
 goes_on c u k r p (suc n) m =
-    cond (leaves (decode (table_from c p.base p.end) m.cell)) (continues m) (on_turn (turn_by c u k r p m) (goes_on c u k r p n))
+    cond (leaves (decode (table_in c p) m.cell)) (continues m) (on_turn (turn_by c u k r p m) (goes_on c u k r p n))

@@ -1,6 +1,5 @@
 -- What the cycle requires and ensures.
-use Rattle.std.specs.Prelude.{◌≡◌, false, cond, List, ℕ, ◌-◌, ◌≤◌, ◌<◌, ℤ, length, get_or, ltb, eqb}
-use Rattle.language.specs.declared.Ending.TheVariants.{StewardCall}
+use Rattle.std.specs.Prelude.{◌≡◌, Bool, true, false, cond, List, ℕ, ◌-◌, ◌≤◌, ◌<◌, ℤ, length, get_or}
 use Rattle.language.specs.Answers.{ending_number}
 use Rattle.language.specs.Limits.{max_letters, max_cells, max_height}
 use Rattle.language.specs.Effects.{start}
@@ -10,6 +9,8 @@ use Rattle.book.specs.declared.Report.{Report}
 use Rattle.book.specs.Replies.{replied, reported}
 use Rattle.book.specs.Store.{Store}
 use Rattle.operands.specs.declared.Machine.{Machine}
+use Rattle.operands.specs.declared.Status.{Status}
+use Rattle.operands.specs.declared.Status.TheVariants.{Goes, Enters, Over, Stopped}
 
 -- no used-cell count is over 250
 abbrev pub Counted : List ℕ → Type 0
@@ -22,11 +23,6 @@ pub record Startable (a : ℕ) (u k : List ℕ) (r : ℕ) (p : List ℤ) : Type 
   pub letters : length u ≡ max_letters
   pub counted : Counted u
   pub places : length p ≡ max_height
-
--- the operand stack s fills the list's places p
-pub record Filling (p s : List ℤ) : Type 0 where
-  pub places : length p ≡ max_height
-  pub slots : length s ≡ max_height
 
 -- a run's arguments beside the store, as the interpreter takes them: its letter is an index, a as 0
 pub record Launch : Type 0 where
@@ -41,26 +37,45 @@ abbrev pub ran : Store → Launch → Outcome
 ran st x =
     execute st.cells st.used st.permissions x.role x.letter x.allowance (start st.variables x.inputs x.output)
 
--- the report that the machine's numbers come to once its state is not 0, after an allowance of n
-abbrev pub report_from : ℕ → Machine → Report
-report_from n m =
+-- the number and the truth of a run that is over with this status
+abbrev pub number_of : Status → ℕ
+number_of Goes = 0
+number_of Enters = 0
+number_of (Over t) = 0
+number_of (Stopped e) = ending_number e
+
+abbrev pub truth_of : Status → Bool
+truth_of Goes = false
+truth_of Enters = false
+truth_of (Over t) = t
+truth_of (Stopped e) = false
+
+-- whether it was stopped
+abbrev pub was_stopped : Status → Bool
+was_stopped Goes = false
+was_stopped Enters = false
+was_stopped (Over t) = false
+was_stopped (Stopped e) = true
+
+-- the report of the machine's numbers for a status, after an allowance of n
+abbrev pub report_of : Status → ℕ → Machine → Report
+report_of s n m =
     record {
-      number = cond (ltb 2 m.state) m.state 0;
-      truth = eqb m.state 1;
+      number = number_of s;
+      truth = truth_of s;
       steps = n - m.left;
       height = m.height;
       taken = m.taken;
       written = m.written;
     }
 
--- they can be reported
-pub record Over (n : ℕ) (m : Machine) : Type 0 where
-  pub left : m.left ≤ n
-  pub state : m.state ≤ ending_number StewardCall
+-- for their own, once the run is over
+abbrev pub report_from : ℕ → Machine → Report
+report_from n m = report_of m.status n m
 
 -- The run r is over with the machine's numbers m, the variables w, the list's places p and the output o. "Only a finished run changes variables; any
 -- other leaves them as before it."
 pub record Driven (n : ℕ) (r : Outcome) (m : Machine) (w p : List ℤ) (o : List ℕ) : Type 0 where
-  pub over : Over n m
+  pub left : m.left ≤ n
   pub reply : (v : List ℤ)
-      → replied (report_from n m) p o (cond (ltb 2 m.state) v w) ≡ reported v n r
+      → replied (report_from n m) p o (cond (was_stopped m.status) v w) ≡ reported v n r

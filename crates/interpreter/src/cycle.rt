@@ -1,44 +1,26 @@
 // The fetch and execute cycle: turns of the machine, from cell 2 of a letter until the run ends or stops.
-ghost use Rattle.std.specs.Prelude.{◌≡◌, ◌<◌};
+ghost use Rattle.std.specs.Prelude.{◌≡◌, ◌<◌, ◌≤◌};
 ghost use Rattle.language.specs.Limits.{max_letters};
 ghost use Rattle.book.specs.Store.{store_of};
 ghost use Rattle.operands.specs.Held.{held};
 ghost use Rattle.dispatch.specs.Turning.{Turned};
-ghost use Rattle.interpreter.specs.Runs.{Startable, Filling, Over, Driven, report_from, ran};
+ghost use Rattle.interpreter.specs.Runs.{Startable, Driven, report_from, ran};
 ghost use Rattle.interpreter.specs.Fetching.{fetched, Obeying};
 
 use book::Report;
 use dispatch::machine::turn;
 use language::{COUNTS, HEIGHT, LETTERS, STORE_CELLS, Table, VARIABLES};
-use operands::{FRAMES, Machine};
+use operands::cells::Code;
+use operands::{Frame, Machine, Status};
 
-// "the letter's used-cell count and its start in the store"
-#[derive(Clone, Copy)]
-pub struct Fetched {
-    pub base: usize,
-    pub end: usize,
-}
-
-// The one place where they are fetched.
-fn fetch(used: &[usize; LETTERS], letter: usize) -> Fetched
+// "the letter's used-cell count and its start in the store": the one place where they are fetched.
+fn fetch(used: &[usize; LETTERS], letter: usize) -> Code
     requires { letter < max_letters }
     ensures { result ≡ fetched used.now letter }
 {
-    Fetched {
+    Code {
         base: letter * Table::CELLS,
         end: used[letter],
-    }
-}
-
-// The operand stack as the caller's list.
-fn copy_out(list: &mut [i32], slots: &[i32; HEIGHT])
-    requires { Filling list.old slots.now }
-    ensures { list.new ≡ slots.now }
-{
-    let mut i: usize = 0;
-    while i < HEIGHT {
-        list[i] = slots[i];
-        i += 1;
     }
 }
 
@@ -49,16 +31,16 @@ fn obey<'a>(
     used: &'a [usize; LETTERS],
     permissions: &'a [u32; LETTERS],
     role: u32,
-    pair: Fetched,
+    pair: Code,
     inputs: &[i32],
-    frames: &mut [u32; FRAMES],
+    frames: &mut [Frame; Table::CALLS],
     counts: &mut [u32; COUNTS],
     vars: &mut [i32; VARIABLES],
     list: &mut [i32; HEIGHT],
     output: &mut [u8],
 ) -> Machine
     requires { Obeying used.now permissions.now role pair m frames.old output.old }
-    ensures { Turned pair.base pair.end
+    ensures { Turned pair
         (held m cells.now used.now permissions.now role inputs.now frames.old counts.old
         vars.old list.old output.old)
         (held result cells.now used.now permissions.now role inputs.now frames.new counts.new
@@ -70,8 +52,7 @@ fn obey<'a>(
         used,
         permissions,
         role,
-        pair.base,
-        pair.end,
+        pair,
         inputs,
         frames,
         counts,
@@ -101,23 +82,28 @@ pub fn drive<'a>(
         (record { letter = letter; role = role; allowance = allowance; inputs = inputs.now; output = output.old }))
         result vars.new list.new output.new }
 {
-    let mut frames = [0u32; FRAMES];
+    let none = Frame {
+        letter: 0,
+        next: 0,
+        exit: 0,
+    };
+    let mut frames = [none; Table::CALLS];
     let mut counts = [0u32; COUNTS];
     let mut slots = [0i32; HEIGHT];
     let mut m = Machine {
-        letter: letter,
+        letter,
         at: Table::CODE_START,
         height: 0,
         depth: 0,
         taken: 0,
         written: 0,
         left: allowance,
-        state: Machine::ENTERS,
+        status: Status::Enters,
     };
-    while m.state == Machine::ENTERS {
+    while let Status::Enters = m.status {
         let pair = fetch(used, m.letter);
-        m.state = Machine::GOES;
-        while m.state == Machine::GOES {
+        m.status = Status::Goes;
+        while let Status::Goes = m.status {
             m = obey(
                 m,
                 cells,
@@ -134,31 +120,24 @@ pub fn drive<'a>(
             );
         }
     }
-    copy_out(list, &slots);
+    list.copy_from_slice(&slots);
     m
 }
 
 // The report of a run that is over.
 pub fn report(m: Machine, allowance: u32) -> Report
-    requires { Over allowance m }
+    requires { m.left ≤ allowance }
     ensures { result ≡ report_from allowance m }
 {
-    let steps = ((allowance as usize) - m.left) as u32;
-    if Machine::FALSE < m.state {
-        let number = m.state as u32;
-        return Report {
-            number: number,
-            truth: false,
-            steps: steps,
-            height: m.height,
-            taken: m.taken,
-            written: m.written,
-        };
-    }
+    let (number, truth) = match m.status {
+        Status::Stopped(ending) => (ending.number(), false),
+        Status::Over(truth) => (0, truth),
+        Status::Goes | Status::Enters => (0, false),
+    };
     Report {
-        number: 0,
-        truth: m.state == Machine::TRUE,
-        steps: steps,
+        number,
+        truth,
+        steps: ((allowance as usize) - m.left) as u32,
         height: m.height,
         taken: m.taken,
         written: m.written,

@@ -33,7 +33,7 @@ use Rattle.operands.proofs.Operands.{none-some, some-same, print-good}
 use Rattle.operands.proofs.OperandsDecoding.{decoded_from, call-kind, mark-decoded, transfer-decoded, condition-read, call-read, constant-read, variable-read, count-read, print-read}
 use Rattle.operands.proofs.OperandsDecoding.{decode-end, decode-low, decode-high, decode-last, decode-fail, exact-yes, exact-no}
 use Rattle.marks.specs.Marks.{next_cell, met, marks_from, marks, undamaged, called, calls_in}
-use Rattle.marks.specs.Formats.{format_of_kind, format_of, mark_end, end_of, called_as, called_by, ticked, Reads}
+use Rattle.marks.specs.Formats.{format_of_kind, format_of, mark_end, end_of, called_as, called_of, ticked, Reads}
 
 -- ── an instruction before the last two cells ────────────────────────────────────────────────────
 
@@ -41,7 +41,7 @@ use Rattle.marks.specs.Formats.{format_of_kind, format_of, mark_end, end_of, cal
 pub record Goes (u q : ℕ) (d : Due) (i : Instruction) : Type 0 where
   pub further : q < next_cell i q
   pub before : next_cell i q < u
-  pub letter : (r : List ℕ) → called i r ≡ called_by d r
+  pub letter : (r : List ℕ) → called i r ≡ called_of d r
 
 -- what decodes there is damage, or such code
 unfoldable pub Whole : ℕ → ℕ → Due → Decoded → Type 0
@@ -273,7 +273,7 @@ as-letters b r h = go (is_letter b) refl
     go true e = (letter-lt b e, h)
     go false e = h
 
-by-letters : (d : Due) (r : List ℕ) → Letters r → Letters (called_by d r)
+by-letters : (d : Due) (r : List ℕ) → Letters r → Letters (called_of d r)
 by-letters (Mark b) r h = as-letters b r h
 by-letters Transfer r h = h
 by-letters End r h = h
@@ -419,11 +419,11 @@ module _ (c : List ℤ) (base end : ℕ) (few : end ≤ max_cells) where
                 let k : n ≡ next_cell i at = some-same (ended ∙ ap (λ d. end_of d at) e) in
                 omega (arith, w.further, k)
 
-        pub reading-more : (m : List ℕ) → m ≡ ticked now from (called_by (byte_at table at) []) → Reading table from before m n
+        pub reading-more : (m : List ℕ) → m ≡ ticked now from (called_of (byte_at table at) []) → Reading table from before m n
         unfolding Whole undamaged calls_in
         reading-more m t = go (decode table at) refl (whole-inside c (record { base = base; end = end }) at r.low few' few)
           where
-            split : (d : Due) (l : List ℕ) → ticked now from (called_by d l) ≡ ticked (ticked now from (called_by d [])) from l
+            split : (d : Due) (l : List ℕ) → ticked now from (called_of d l) ≡ ticked (ticked now from (called_of d [])) from l
             split Transfer l = refl
             split End l = refl
             split (Mark b) l = pick (is_letter b)

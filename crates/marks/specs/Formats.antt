@@ -60,10 +60,10 @@ abbrev pub called_as : ℕ → List ℕ → List ℕ
 called_as b r = cond (is_letter b) (letter_index b ∷ r) r
 
 -- the letter that a cell calls which holds this, if it does, and then r
-abbrev pub called_by : Due → List ℕ → List ℕ
-called_by (Mark b) r = called_as b r
-called_by Transfer r = r
-called_by End r = r
+abbrev pub called_of : Due → List ℕ → List ℕ
+called_of (Mark b) r = called_as b r
+called_of Transfer r = r
+called_of End r = r
 
 -- these letters ticked in a row of 26 places that starts at place `from`
 abbrev pub ticked : List ℕ → ℕ → List ℕ → List ℕ

@@ -5,13 +5,13 @@ ghost use Rattle.std.specs.Prelude.{◌≡◌, []};
 ghost use Rattle.language.specs.Machine.{decode};
 ghost use Rattle.operands.specs.Operands.{table_in};
 ghost use Rattle.operands.specs.Ready.{Inside};
-ghost use Rattle.marks.specs.Formats.{format_of, end_of, mark_end, called_by, ticked, Row, Standing, Reads, Found};
+ghost use Rattle.marks.specs.Formats.{format_of, end_of, mark_end, called_of, ticked, Row, Standing, Reads, Found};
 
 use language::{CONSTANT_CODE, LETTERS, PRINT_CODE, STORE_CELLS, Table};
 use operands::cells::{Code, Due};
 use validation::is_value;
 
-// The calls of all letters by all letters: the place 26 a + b is 1 where a calls b.
+// The calls of all letters by all letters: the place 26 a + b is 1 where a calls b. Numbers in one array, as the clause `Reads` says it of a list.
 pub const CALLS: usize = LETTERS * LETTERS;
 
 // A mark's format, of document 01's list of marks and their cells: "code", "code, digit", "code, the value", "code, false", a counter's "-36, -n,
@@ -97,7 +97,7 @@ fn next_cell(cells: &[i32; STORE_CELLS], code: Code, at: usize, due: Due) -> Opt
 // The place of the letter that a due cell calls, in the row of the calls that starts at `from`, becomes 1. Where it calls none, nothing changes.
 fn tick(calls: &mut [u8; CALLS], from: usize, due: Due)
     requires { Row from }
-    ensures { calls.new ≡ ticked calls.old from (called_by due []) }
+    ensures { calls.new ≡ ticked calls.old from (called_of due []) }
 {
     if let Due::Mark(b) = due
         && b.is_ascii_lowercase()

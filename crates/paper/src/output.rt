@@ -11,23 +11,18 @@ ghost use Rattle.operands.specs.Turns.{Turns, operator_turn, mark_at};
 ghost use Rattle.operands.specs.Ready.{Writing, Printing};
 ghost use Rattle.paper.specs.Copies.{Copying};
 
-use language::{Ending, HEIGHT, STORE_CELLS, Table, WRITE_WIDTH};
+use language::{Ending, HEIGHT, STORE_CELLS, WRITE_WIDTH};
 use numerals::{money_column, write_bytes};
 use operands::Machine;
-use operands::cells::{bounded, prints};
-
-// The length of a print for which no table has room.
-const TOO_LONG: usize = Table::CELLS + 1;
+use operands::cells::Code;
 
 // The bytes of a print.
 fn copy_cells(output: &mut [u8], to: usize, cells: &[i32; STORE_CELLS], from: usize, n: usize)
     requires { Copying output.old to cells.now from n }
     ensures { output.new ≡ paste output.old to (prints_from cells.now from n) n }
 {
-    let mut i: usize = 0;
-    while i < n {
+    for i in 0..n {
         output[to + i] = cells[from + i] as u8;
-        i += 1;
     }
 }
 
@@ -40,6 +35,7 @@ fn put_column(output: &mut [u8], at: usize, value: i32) -> usize
 }
 
 // The mark `O`.
+#[tactic(auto, unfolding(language::specs::Effects::perform))]
 pub fn write(m: Machine, list: &[i32; HEIGHT], output: &mut [u8]) -> Machine
     requires { Writing m output.old }
     ensures { Turns (operator_turn write)
@@ -56,12 +52,12 @@ pub fn write(m: Machine, list: &[i32; HEIGHT], output: &mut [u8]) -> Machine
     if output.len() - w < WRITE_WIDTH {
         return m.stop(Ending::PaperOut);
     }
-    let mut r = m;
-    r.written = put_column(output, w, list[h - 1]);
-    r.go(m.at + 1, h)
+    let written = put_column(output, w, list[h - 1]);
+    Machine { written, ..m }.go(m.at + 1, h)
 }
 
 // The mark `X`.
+#[tactic(auto, unfolding(language::specs::Effects::perform))]
 pub fn newline(m: Machine, output: &mut [u8]) -> Machine
     requires { Writing m output.old }
     ensures { Turns (operator_turn newline) (printing m output.old) (printing result output.new) }
@@ -72,36 +68,24 @@ pub fn newline(m: Machine, output: &mut [u8]) -> Machine
     let w = m.written;
     if w < output.len() {
         output[w] = b'\n';
-        let mut r = m;
-        r.written = w + 1;
-        return r.go(m.at + 1, m.height);
+        return Machine {
+            written: w + 1,
+            ..m
+        }
+        .go(m.at + 1, m.height);
     }
     m.stop(Ending::PaperOut)
 }
 
 // A print: its length and the form of each byte, then the allowance, then the room.
-pub fn print(
-    m: Machine,
-    cells: &[i32; STORE_CELLS],
-    base: usize,
-    end: usize,
-    output: &mut [u8],
-) -> Machine
-    requires { Printing base end m output.old }
-    ensures { Turns (mark_at cells.now base end is_print) (printing m output.old) (printing result output.new) }
+pub fn print(m: Machine, cells: &[i32; STORE_CELLS], code: Code, output: &mut [u8]) -> Machine
+    requires { Printing code m output.old }
+    ensures { Turns (mark_at cells.now code is_print) (printing m output.old) (printing result output.new) }
 {
     let at = m.at;
-    if end < at + 3 {
+    let Some(n) = code.print_at(cells, at) else {
         return m.stop(Ending::Damaged);
-    }
-    let n = bounded(cells[base + at], Table::CELLS, TOO_LONG);
-    if end < at + 3 + n {
-        return m.stop(Ending::Damaged);
-    }
-    let from = base + at + 1;
-    if !prints(cells, from, n) {
-        return m.stop(Ending::Damaged);
-    }
+    };
     if m.left == 0 {
         return m.stop(Ending::Spent);
     }
@@ -109,8 +93,10 @@ pub fn print(
     if output.len() - w < n {
         return m.stop(Ending::PaperOut);
     }
-    copy_cells(output, w, cells, from, n);
-    let mut r = m;
-    r.written = w + n;
-    r.go(at + 2 + n, m.height)
+    copy_cells(output, w, cells, code.base + at + 1, n);
+    Machine {
+        written: w + n,
+        ..m
+    }
+    .go(at + 2 + n, m.height)
 }

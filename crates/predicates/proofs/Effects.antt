@@ -7,6 +7,7 @@ use lib.ListN.{get_or, set}
 use borrow.Author.Tests.{lt-ltb, le-ltb}
 use Rattle.language.specs.Syntax.{condition, counter}
 use Rattle.language.specs.Effects.{State, answers, asked, with_counts, count_index, ask}
+use Rattle.operands.proofs.Operands.{counter-bounds}
 use Rattle.predicates.specs.declared.conditions.Condition.{Condition}
 use Rattle.predicates.specs.declared.conditions.Condition.TheVariants.{Negative, Null, Equal}
 use Rattle.predicates.specs.Conditions.{condition_of, needed, holding}
@@ -20,7 +21,7 @@ condition-asked l Equal s = refl
 
 -- ── counters ────────────────────────────────────────────────────────────────────────────────────
 
-module _ (s : State) (l n k : ℕ) (some : n ≡ 0 → ⊥) where
+module _ (s : State) (l n k : ℕ) (some : 0 < n) where
   is-n : suc (n - 1) ≡ n
   is-n = omega arith
 
@@ -35,3 +36,6 @@ module _ (s : State) (l n k : ℕ) (some : n ≡ 0 → ⊥) where
       → ask l (counter (n - 1) k) s ≡ answers false (with_counts s (set s.counts (count_index l k) 0))
   unfolding ask
   count-false h = rw (is-n, le-ltb _ n h)
+
+-- what is known of a counter that was read
+pub ruleset counted = (counter-bounds)

@@ -8,10 +8,10 @@ ghost use Rattle.predicates.specs.Conditions.{condition_of, needed, holding, Hol
 
 use language::{Ending, HEIGHT, STORE_CELLS};
 use operands::Machine;
-use operands::cells::exit_of;
+use operands::cells::Code;
 
 // `N 0 J`.
-#[derive(Clone, Copy)]
+#[derive(Clone, Copy, Debug, PartialEq, Eq)]
 pub enum Condition {
     Negative,
     Null,
@@ -45,19 +45,17 @@ fn holds(c: Condition, list: &[i32; HEIGHT], h: usize) -> bool
 pub fn test<'a>(
     m: Machine,
     cells: &'a [i32; STORE_CELLS],
-    base: usize,
-    end: usize,
+    code: Code,
     list: &'a [i32; HEIGHT],
     c: Condition,
 ) -> Machine
-    requires { Reading base end m }
-    ensures { Turns (mark_at cells.now base end (is_condition (condition_of c)))
+    requires { Reading code m }
+    ensures { Turns (mark_at cells.now code (is_condition (condition_of c)))
         (stacked m list.now) (stacked result list.now) }
 {
-    let f = exit_of(cells, base, end, m.at);
-    if f == 0 {
+    let Some(f) = code.exit_of(cells, m.at) else {
         return m.stop(Ending::Damaged);
-    }
+    };
     if m.left == 0 {
         return m.stop(Ending::Spent);
     }

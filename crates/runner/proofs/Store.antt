@@ -1,5 +1,5 @@
 -- A run of any store: refused by its tests, or what the interpreter reports.
-use mathlib.Core.Path.{◌≡◌, refl, ap, ◌∙◌}
+use mathlib.Core.Path.{◌≡◌, refl, sym, ap, ◌∙◌}
 use Prim.Native.Nat.{ℕ, zero, suc, ◌≤◌}
 use native.Mathlib.Omega.{arith}
 use mathlib.Core.Bool.{Bool, true, false, cond, ◌&&◌}
@@ -14,12 +14,15 @@ use Rattle.language.specs.Values.{lawful}
 use Rattle.language.specs.Effects.{start}
 use Rattle.language.specs.Tables.{execute, sound_count, sound_used, sound_permissions}
 use Rattle.language.proofs.Tests.{first-true, second-true}
+use Rattle.std.specs.Prelude.{Result, Ok, Err}
 use Rattle.book.specs.declared.Report.{Report}
+use Rattle.book.specs.declared.Refusal.{Refusal}
+use Rattle.admission.specs.Admission.{refusal_in}
 use Rattle.book.specs.Calls.{Run, runs}
 use Rattle.book.specs.Replies.{leaves, plain, replied, reported, tells}
-use Rattle.book.specs.Refusals.{refused_by, role_tests, closing, tests, refusal}
+use Rattle.book.specs.Refusals.{refusal_number, first, zero_or, role_tests, closing, tests, refusal}
 use Rattle.book.specs.Store.{Store, store_of, sound_store, with_variables, store_ran, store_accepts, store_view, store_call, answered}
-use Rattle.book.proofs.Refusals.{none-fits, Free, free-run}
+use Rattle.book.proofs.Refusals.{refusal-not-zero, Free, free-run}
 use Rattle.book.proofs.Store.{call-refused, call-accepted}
 use Rattle.runner.specs.Figures.{Admitted}
 
@@ -49,15 +52,18 @@ sound-most st h =
 
 -- ── a run ───────────────────────────────────────────────────────────────────────────────────────
 
--- the tests of a run came to n
-module _ (st : Store) (x : Run) (n : ℕ) (asked : n ≡ refused_by (role_tests (store_view st) x.letter x.role ++ closing (store_view st) x)) where
-  pub refused : (r : Report) → (n ≡ 0 → ⊥) → r ≡ plain n → answered st r x.list x.output ≡ store_call st (runs x)
+-- the tests of a run came to the answer
+module _ (st : Store) (x : Run) {answer : Result Unit Refusal}
+    (asked : first (role_tests (store_view st) x.letter x.role ++ closing (store_view st) x) ≡ refusal_in answer) where
+  pub refused : (f : Refusal) (r : Report) → answer ≡ Err f → r ≡ plain (refusal_number f) → answered st r x.list x.output ≡ store_call st (runs x)
   unfolding tells tests
-  refused r h e = ap (λ (y : Report). answered st y x.list x.output) e ∙ call-refused st (runs x) n asked h
+  refused f r a e =
+      ap (λ (y : Report). answered st y x.list x.output) e
+      ∙ call-refused st (runs x) (refusal_number f) (sym (ap zero_or (asked ∙ ap refusal_in a))) (refusal-not-zero f)
 
-  pub admitted : n ≡ 0 → Admitted st (runs x)
+  pub admitted : (u : Unit {0}) → answer ≡ Ok u → Admitted st (runs x)
   unfolding refusal tests
-  admitted z = none-fits (role_tests (store_view st) x.letter x.role ++ closing (store_view st) x) n asked z
+  admitted u a = asked ∙ ap refusal_in a
 
 -- no refusal fits
 module _ (st : Store) (x : Run) (h : Admitted st (runs x)) where

@@ -1,5 +1,5 @@
 -- A run over lent arrays, as C asks for it: its report as a number and an array of figures.
-use Rattle.std.specs.Prelude.{◌≡◌, Bool, cond, List, [], ◌∷◌, ℕ, ℤ, get_or, ltb, eqb}
+use Rattle.std.specs.Prelude.{◌≡◌, Bool, cond, List, [], ◌∷◌, ℕ, ℤ, get_or, eqb}
 use Rattle.std.proofs.Math.Option.{none}
 use Rattle.book.specs.declared.Report.{Report}
 use Rattle.book.specs.Calls.{Call}
@@ -7,7 +7,7 @@ use Rattle.book.specs.Replies.{Answered}
 use Rattle.book.specs.Refusals.{refusal}
 use Rattle.book.specs.Store.{Store, store_view}
 use Rattle.operands.specs.declared.Machine.{Machine}
-use Rattle.interpreter.specs.Runs.{report_from}
+use Rattle.interpreter.specs.Runs.{report_from, was_stopped}
 
 -- a truth as a number
 abbrev pub truth_figure : Bool → ℕ
@@ -56,4 +56,4 @@ Admitted st c = refusal (store_view st) c ≡ none
 -- The loop left the machine's numbers m and the variables v after an allowance of n; b are the variables before the run. r is reported, and w are kept.
 pub record Ended (n : ℕ) (m : Machine) (b v : List ℤ) (r : Report) (w : List ℤ) : Type 0 where
   pub report : r ≡ report_from n m
-  pub variables : w ≡ cond (ltb 2 m.state) b v
+  pub variables : w ≡ cond (was_stopped m.status) b v

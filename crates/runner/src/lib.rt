@@ -1,16 +1,16 @@
 // A run over a store's arrays, as document 01's "Run" asks: its refusals in their order, then the interpreter.
 #![tactic(auto)]
 
-ghost use Rattle.std.specs.Prelude.{◌≡◌};
+ghost use Rattle.std.specs.Prelude.{◌≡◌, ◌≤◌};
 ghost use Rattle.book.specs.Calls.{running};
 ghost use Rattle.book.specs.Store.{store_of, store_call, answered};
-ghost use Rattle.interpreter.specs.Runs.{Over};
-ghost use Rattle.runner.specs.Figures.{Admitted, Ended, truth_figure, returns, returned};
+ghost use Rattle.runner.specs.Figures.{Admitted, Ended, returns, returned};
 
+use admission::View;
 use book::Report;
 use interpreter::cycle::{drive, report};
 use language::{LETTERS, STORE_CELLS, VARIABLES};
-use operands::Machine;
+use operands::{Machine, Status};
 
 // The figures of a run beside its number.
 pub const FIGURES: usize = 5;
@@ -22,19 +22,18 @@ fn ended(
     before: [i32; VARIABLES],
     vars: &mut [i32; VARIABLES],
 ) -> Report
-    requires { Over allowance m }
+    requires { m.left ≤ allowance }
     ensures { Ended allowance m before vars.old result vars.new }
 {
-    let r = report(m, allowance);
-    if m.state <= Machine::FALSE {
-        return r;
+    if let Status::Stopped(_) = m.status {
+        *vars = before;
     }
-    *vars = before;
-    r
+    report(m, allowance)
 }
 
-// A run that no refusal meets: the loop over copies of the store's counts and permissions, and its report. It has two callers, so that the loop stays apart
-// from their tests (docs/PERFORMANCE.md).
+// A run that no refusal meets: the loop over copies of the store's counts and permissions, and its report. It stays apart from the tests before it, which
+// would cost the loop registers (docs/PERFORMANCE.md).
+#[inline(never)]
 fn execute(
     cells: &[i32; STORE_CELLS],
     used: &[usize; LETTERS],
@@ -89,9 +88,13 @@ pub fn run(
         ≡ store_call (store_of cells.now used.now permissions.now vars.old)
         (running letter role allowance inputs.now list.old output.old) }
 {
-    let number = admission::run(used, permissions, vars, letter, role, inputs, list);
-    if number != 0 {
-        return Report::plain(number);
+    let view = View {
+        used,
+        permissions,
+        vars,
+    };
+    if let Err(refusal) = view.run(letter, role, inputs, list) {
+        return Report::plain(refusal.number());
     }
     execute(
         cells,
@@ -108,13 +111,6 @@ pub fn run(
 }
 
 // ── for C ───────────────────────────────────────────────────────────────────────────────────────
-
-// A truth as a number.
-fn truth_figure(t: bool) -> usize
-    ensures { result ≡ truth_figure t }
-{
-    if t { 1 } else { 0 }
-}
 
 // The same run for C: the number, and truth, steps, list height, inputs taken and output length beside it.
 pub fn run_into(
@@ -134,12 +130,7 @@ pub fn run_into(
         ≡ returned (store_call (store_of cells.now used.now permissions.now vars.old)
         (running letter role allowance inputs.now list.old output.old)) }
 {
-    let number = admission::run(used, permissions, vars, letter, role, inputs, list);
-    if number != 0 {
-        *figures = [0usize; FIGURES];
-        return number;
-    }
-    let r = execute(
+    let report = run(
         cells,
         used,
         permissions,
@@ -152,11 +143,11 @@ pub fn run_into(
         output,
     );
     *figures = [
-        truth_figure(r.truth),
-        r.steps as usize,
-        r.height,
-        r.taken,
-        r.written,
+        usize::from(report.truth),
+        report.steps as usize,
+        report.height,
+        report.taken,
+        report.written,
     ];
-    r.number
+    report.number
 }

@@ -5,7 +5,7 @@ use native.Mathlib.Omega.{arith}
 use mir.Syntax.{w32}
 use mir.Val.{to_z, of_z}
 use borrow.Author.Rules.{rules}
-use Rattle.marks.specs.Formats.{called_by, ticked}
+use Rattle.marks.specs.Formats.{called_of, ticked}
 use Rattle.marks.proofs.Marks.{reading-none, reading-broken, reading-further, reading-more, reading-unclosed, reading-tested}
 use Rattle.marks.proofs.read.Goals as goal
 
@@ -29,7 +29,7 @@ loop-at-preserved c =
     let p = c.args.code in
     let i = c.loop-at.invariant in
     reading-more c.args.cells.now p.base p.end c.requires.placed.used _ _ _ c.loop-at.at i (omega arith) c.in-Some.next c.in-Some.ensures _
-    (c.tick.ensures ∙ ap (λ d. ticked c.loop-at.calls c.args.from (called_by d [])) c.byte_at-due.ensures)
+    (c.tick.ensures ∙ ap (λ d. ticked c.loop-at.calls c.args.from (called_of d [])) c.byte_at-due.ensures)
 
 pub returns-then-cell-ne0 : goal.returns-then-cell-ne0
 returns-then-cell-ne0 c =

@@ -42,7 +42,7 @@ drive-m-requires c =
     }
 
 pub ended-requires : goal.ended-requires
-ended-requires c = c.drive-m.ensures.over
+ended-requires c = c.drive-m.ensures.left
 
 pub returns : goal.returns
 returns c =

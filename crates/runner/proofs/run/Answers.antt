@@ -1,11 +1,13 @@
 -- `runner::run` meets its contract: the refusal that its tests come to, or what the run comes to.
+use mathlib.Core.Path.{ap, ◌∙◌}
 use Rattle.book.specs.Calls.{Run}
-use Rattle.book.specs.Store.{Store, store_of}
+use Rattle.book.specs.Replies.{plain}
+use Rattle.book.specs.Store.{store_of}
 use Rattle.runner.proofs.Store.{refused, admitted}
 use Rattle.runner.proofs.run.Goals as goal
 
-pub returns-then-number-ne0 : goal.returns-then-number-ne0
-returns-then-number-ne0 c =
+pub returns-in-Err : goal.returns-in-Err
+returns-in-Err c =
     let asks : Run =
     record {
       letter = c.args.letter;
@@ -15,8 +17,8 @@ returns-then-number-ne0 c =
       list = c.args.list.now;
       output = c.args.output.now;
     } in
-    let given : Store = store_of c.args.cells.now c.args.used.now c.args.permissions.now c.args.vars.now in
-    refused given asks _ (c.run-number.ensures c.args.cells.now) _ c.if-number-ne0.true c.plain.ensures
+    refused (store_of c.args.cells.now c.args.used.now c.args.permissions.now c.args.vars.now) asks (c.run.ensures.decides c.args.cells.now)
+    c.in-Err.refusal _ c.in-Err.is (c.plain.ensures ∙ ap plain c.number.ensures)
 
 pub execute-requires : goal.execute-requires
 execute-requires c =
@@ -29,5 +31,4 @@ execute-requires c =
       list = c.args.list.now;
       output = c.args.output.now;
     } in
-    let given : Store = store_of c.args.cells.now c.args.used.now c.args.permissions.now c.args.vars.now in
-    admitted given asks _ (c.run-number.ensures c.args.cells.now) c.if-number-ne0.false
+    admitted (store_of c.args.cells.now c.args.used.now c.args.permissions.now c.args.vars.now) asks (c.run.ensures.decides c.args.cells.now) _ c.in_default.is

@@ -5,22 +5,14 @@ use lib.IntN.{pos}
 use lib.ListN.{get_or}
 use mir.Syntax.{w32}
 use mir.Val.{to_z, of_z}
-use borrow.Author.Tests.{lt-ltb, le-ltb, eq-eqb, ne_eqb}
+use borrow.Author.Tests.{le-ltb, ne_eqb}
 use borrow.Author.Rules.{rules}
 use Rattle.language.specs.Effects.{perform}
 use Rattle.instructions.proofs.stack.copy.Goals as goal
 
-pub returns-then-m-eq0 : goal.returns-then-m-eq0
-returns-then-m-eq0 c = λ h. rw (c.stop.ensures, eq-eqb _ _ c.if-m-eq0.true)
-
-pub returns-then-h-lt1 : goal.returns-then-h-lt1
-unfolding perform
-returns-then-h-lt1 c = λ h. rw (c.stop-then-h-lt1.ensures, ne_eqb _ _ c.if-m-eq0.false, lt-ltb _ _ c.if-h-lt1.true)
-
 pub returns : goal.returns
 unfolding perform
 returns c = λ h.
-    let a = c.args in
-    let v = get_or a.list.now (a.m.height - 1) (pos 0) in
+    let v = get_or c.args.list.now (c.args.m.height - 1) (pos 0) in
     let e : to_z w32 (of_z w32 v) ≡ v = search rules in
     rw (ne_eqb _ _ c.if-m-eq0.false, le-ltb _ _ c.if-h-lt1.false) (rw e at (c.push.ensures h))

@@ -13,23 +13,23 @@ use Rattle.operands.specs.Held.{storing}
 use Rattle.operands.proofs.OperandsDecoding.{variable-read}
 use Rattle.instructions.proofs.stack.variable.Goals as goal
 
-pub returns-then-d-eq0 : goal.returns-then-d-eq0
-returns-then-d-eq0 c = λ h. rw (c.stop.ensures, variable-read, ← c.digit_at-d.ensures, eq-eqb _ _ c.if-d-eq0.true)
+pub returns-in_default : goal.returns-in_default
+returns-in_default c = λ h. rw (c.stop.ensures, variable-read, ← c.digit_at.ensures, c.in_default.is)
 
 pub returns-then-m-eq0 : goal.returns-then-m-eq0
-returns-then-m-eq0 c = λ h. rw (c.stop-then-m-eq0.ensures, variable-read, ← c.digit_at-d.ensures, ne_eqb _ _ c.if-d-eq0.false, eq-eqb _ _ c.if-m-eq0.true)
+returns-then-m-eq0 c = λ h. rw (c.stop-then-m-eq0.ensures, variable-read, ← c.digit_at.ensures, c.in-Some.is, eq-eqb _ _ c.if-m-eq0.true)
 
 pub returns-then-h-lt1 : goal.returns-then-h-lt1
 unfolding perform
-returns-then-h-lt1 c = λ h. rw (c.stop-then-h-lt1.ensures, variable-read, ← c.digit_at-d.ensures, ne_eqb _ _ c.if-d-eq0.false, ne_eqb _ _ c.if-m-eq0.false, c.in-Save.is, lt-ltb _ _ c.if-h-lt1.true)
+returns-then-h-lt1 c = λ h. rw (c.stop-then-h-lt1.ensures, variable-read, ← c.digit_at.ensures, c.in-Some.is, ne_eqb _ _ c.if-m-eq0.false, c.in-Save.is, lt-ltb _ _ c.if-h-lt1.true)
 
 pub returns-in-Fetch : goal.returns-in-Fetch
 unfolding perform
 returns-in-Fetch c = λ h.
     let a = c.args in
-    let v = get_or a.vars.now (c.digit_at-d.result % max_variables) (pos 0) in
+    let v = get_or a.vars.now (c.in-Some.d % max_variables) (pos 0) in
     let b : to_z w32 (of_z w32 v) ≡ v = search rules in
-    rw (variable-read, ← c.digit_at-d.ensures, ne_eqb _ _ c.if-d-eq0.false, ne_eqb _ _ c.if-m-eq0.false, c.in-Fetch.is, ← b)
+    rw (variable-read, ← c.digit_at.ensures, c.in-Some.is, ne_eqb _ _ c.if-m-eq0.false, c.in-Fetch.is, ← b)
     (c.push.ensures (storing a.m a.vars.now a.list.now h))
 
 pub returns-else-h-lt1 : goal.returns-else-h-lt1
@@ -38,4 +38,4 @@ returns-else-h-lt1 c = λ h.
     let a = c.args in
     let v = get_or a.list.now (a.m.height - 1) (pos 0) in
     let b : to_z w32 (of_z w32 v) ≡ v = search rules in
-    rw (c.go.ensures, b, variable-read, ← c.digit_at-d.ensures, ne_eqb _ _ c.if-d-eq0.false, ne_eqb _ _ c.if-m-eq0.false, c.in-Save.is, le-ltb _ _ c.if-h-lt1.false)
+    rw (c.go.ensures, b, variable-read, ← c.digit_at.ensures, c.in-Some.is, ne_eqb _ _ c.if-m-eq0.false, c.in-Save.is, le-ltb _ _ c.if-h-lt1.false)

@@ -1,5 +1,5 @@
--- `paper::output::copy_cells` meets its contract. The loop's invariant: the first i bytes are pasted.
-use mathlib.Core.Path.{◌≡◌, refl, sym, ◌∙◌}
+-- `paper::output::copy_cells` meets its contract.
+use mathlib.Core.Path.{◌≡◌, refl}
 use Prim.Native.Nat.{◌+◌}
 use native.Mathlib.Omega.{arith}
 use lib.IntN.{ℤ, pos}
@@ -8,8 +8,7 @@ use mir.Syntax.{w32}
 use mir.Val.{to_z, of_z}
 use borrow.Author.Rules.{rules}
 use Rattle.language.proofs.Copies.{pasting-none, pasting-more, pasting-done}
-use Rattle.operands.proofs.Operands.{length-prints, get_or-prints}
-use Rattle.paper.proofs.Copies.{Castable, print-cell}
+use Rattle.operands.proofs.Operands.{length-prints, get_or-prints, prints-castable}
 use Rattle.paper.proofs.output.copy_cells.Goals as goal
 
 pub loop-i-init : goal.loop-i-init
@@ -19,19 +18,14 @@ pub overflow_cast-output : goal.overflow_cast-output
 overflow_cast-output c =
     let cell : ℤ = get_or c.args.cells.now (c.args.from + c.loop-i.i) (pos 0) in
     let back : to_z w32 (of_z w32 cell) ≡ cell = search rules in
-    let byte : Castable cell = print-cell c.args.cells.now c.args.from c.args.n c.loop-i.i c.requires.form c.loop-i-test.true in
-    rw back byte.0
+    rw back (prints-castable c.args.cells.now c.args.from c.args.n c.loop-i.i c.requires.form (omega arith))
 
 pub loop-i-preserved : goal.loop-i-preserved
 loop-i-preserved c =
     let cell : ℤ = get_or c.args.cells.now (c.args.from + c.loop-i.i) (pos 0) in
     let back : to_z w32 (of_z w32 cell) ≡ cell = search rules in
-    let byte : Castable cell = print-cell c.args.cells.now c.args.from c.args.n c.loop-i.i c.requires.form c.loop-i-test.true in
     let k = get_or-prints c.args.cells.now c.args.from c.args.n c.loop-i.i (omega arith) in
-    pasting-more _ _ _ _ 0 _ _ _ _ c.loop-i.invariant (omega arith) refl (rw back (k ∙ sym byte.1))
-
-pub shape_of-output : goal.shape_of-output
-shape_of-output c = c.loop-i.invariant.size
+    pasting-more _ _ _ _ 0 _ _ _ _ c.loop-i.invariant (omega arith) refl (rw back k)
 
 pub returns : goal.returns
 returns c = pasting-done _ _ _ _ _ _ c.loop-i.invariant (omega arith)

@@ -2,13 +2,10 @@
 use Prim.Native.Nat.{◌+◌}
 use native.Mathlib.Omega.{arith}
 use lib.ListN.{length}
-use borrow.Author.Tests.{le-leb, lt-leb, eq-eqb, ne_eqb}
+use borrow.Author.Tests.{le-leb, ne_eqb}
 use Rattle.language.specs.Effects.{perform}
 use Rattle.paper.proofs.Effects.{paste-one}
 use Rattle.paper.proofs.output.newline.Goals as goal
-
-pub returns-then-m-eq0 : goal.returns-then-m-eq0
-returns-then-m-eq0 c = λ h. rw (c.stop.ensures, eq-eqb _ _ c.if-m-eq0.true)
 
 pub returns-then-w-output : goal.returns-then-w-output
 unfolding perform
@@ -17,9 +14,3 @@ returns-then-w-output c = λ h.
     let o = a.output.now in
     let w = a.m.written in
     rw (c.go.ensures, ne_eqb _ _ c.if-m-eq0.false, le-leb (w + 1) (length o) (omega arith), paste-one o w 10 c.if-w-output.true)
-
-pub returns : goal.returns
-unfolding perform
-returns c = λ h.
-    let a = c.args in
-    rw (c.stop-2.ensures, ne_eqb _ _ c.if-m-eq0.false, lt-leb (a.m.written + 1) (length a.output.now) (omega arith))

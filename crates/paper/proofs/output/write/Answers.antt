@@ -1,5 +1,5 @@
 -- `paper::output::write` meets its contract.
-use mathlib.Core.Path.{◌≡◌, refl, sym, ap, ◌∙◌}
+use mathlib.Core.Path.{◌≡◌, sym, ap, ◌∙◌}
 use mathlib.Core.List.{List}
 use Prim.Native.Nat.{ℕ, ◌+◌, ◌-◌, ◌≤◌}
 use native.Mathlib.Omega.{arith}
@@ -8,19 +8,15 @@ use lib.ListN.{length, get_or}
 use lib.Seq.{paste}
 use mir.Syntax.{w32}
 use mir.Val.{to_z, of_z}
-use borrow.Author.Tests.{lt-ltb, le-ltb, eq-eqb, ne_eqb}
+use borrow.Author.Tests.{le-ltb, ne_eqb}
 use borrow.Author.Rules.{rules}
-use Rattle.language.specs.declared.Ending.TheVariants.{PaperOut}
 use Rattle.language.specs.Limits.{write_width}
-use Rattle.language.specs.Syntax.{operator, write}
-use Rattle.language.specs.Effects.{Effect, goes, stops, top, with_output, column, perform}
-use Rattle.language.specs.Tables.{stands_at, barred_at}
+use Rattle.language.specs.Effects.{top, column, perform}
 use Rattle.numerals.specs.Numerals.{Written, wrote, written}
 use Rattle.language.proofs.Money.{column-width}
 use Rattle.numerals.proofs.Numerals.{written-room}
-use Rattle.operands.specs.Loop.{effect_turn}
-use Rattle.operands.specs.Held.{state_of, configuration_of, writing}
-use Rattle.paper.proofs.Effects.{emitted-fits, emitted-out, operate-turn}
+use Rattle.operands.specs.Held.{state_of, writing}
+use Rattle.paper.proofs.Effects.{emitted-fits, emitted-out}
 use Rattle.paper.proofs.output.write.Goals as goal
 
 -- A column that fits is pasted.
@@ -31,24 +27,16 @@ column-written o at v h e =
     let s = e ∙ sym (written-room o at (column v) (omega arith)) in
     (ap (λ (x : Written). x.next) s ∙ ap (λ (k : ℕ). at + k) n, ap (λ (x : Written). x.buffer) s ∙ ap (paste o at (column v)) n)
 
-pub returns-then-m-eq0 : goal.returns-then-m-eq0
-returns-then-m-eq0 c = λ h. rw (c.stop.ensures, eq-eqb _ _ c.if-m-eq0.true)
-
-pub returns-then-h-lt1 : goal.returns-then-h-lt1
-unfolding perform
-returns-then-h-lt1 c = λ h. rw (c.stop-then-h-lt1.ensures, ne_eqb _ _ c.if-m-eq0.false, lt-ltb _ _ c.if-h-lt1.true)
-
 pub returns-then-output-w-lt-WRITE_WIDTH : goal.returns-then-output-w-lt-WRITE_WIDTH
 unfolding perform
 returns-then-output-w-lt-WRITE_WIDTH c = λ h.
-    let a = c.args in
-    let H = writing a.m a.list.now a.output.now h in
-    let s = state_of H in
-    let x : Effect = stops PaperOut in
-    let p : perform (operator write) s ≡ x =
-    rw (le-ltb _ _ c.if-h-lt1.false) (emitted-out s (column (top s)) write_width (column-width (top s)) (omega arith)) in
-    ◌∙◌ {b = effect_turn x (a.m.at + 1) (configuration_of H)} (rw c.stop-then-output-w-lt-WRITE_WIDTH.ensures)
-    (operate-turn (stands_at h.used) (barred_at h.permissions h.role) _ (operator write) (a.m.at + 1) (configuration_of H) x refl c.if-m-eq0.false p)
+    let s = state_of (writing c.args.m c.args.list.now c.args.output.now h) in
+    rw (
+      c.stop-then-output-w-lt-WRITE_WIDTH.ensures,
+      ne_eqb _ _ c.if-m-eq0.false,
+      le-ltb _ _ c.if-h-lt1.false,
+      emitted-out s (column (top s)) write_width (column-width (top s)) (omega arith),
+    )
 
 pub returns : goal.returns
 unfolding perform
@@ -56,14 +44,16 @@ returns c = λ h.
     let a = c.args in
     let w = a.m.written in
     let o = a.output.now in
-    let H = writing a.m a.list.now o h in
-    let s = state_of H in
+    let s = state_of (writing a.m a.list.now o h) in
     let v = get_or a.list.now (a.m.height - 1) (pos 0) in
     let b : to_z w32 (of_z w32 v) ≡ v = search rules in
     let fits : w + write_width ≤ length o = omega arith in
-    let e = column-written o w v fits (rw b at c.put_column.ensures) in
-    let x : Effect = goes (with_output s (paste o w (column v) write_width) (w + write_width)) in
-    let p : perform (operator write) s ≡ x = rw (le-ltb _ _ c.if-h-lt1.false) (emitted-fits s (column v) write_width (column-width v) fits) in
-    ◌∙◌ {b = effect_turn x (a.m.at + 1) (configuration_of H)}
-    (rw (c.go.ensures, e.0, e.1))
-    (operate-turn (stands_at h.used) (barred_at h.permissions h.role) _ (operator write) (a.m.at + 1) (configuration_of H) x refl c.if-m-eq0.false p)
+    let e = column-written o w v fits (rw b at c.put_column-written.ensures) in
+    rw (
+      c.go.ensures,
+      e.0,
+      e.1,
+      ne_eqb _ _ c.if-m-eq0.false,
+      le-ltb _ _ c.if-h-lt1.false,
+      emitted-fits s (column v) write_width (column-width v) fits,
+    )
