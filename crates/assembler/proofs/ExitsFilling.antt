@@ -2,7 +2,8 @@
 use mathlib.Core.Path.{◌≡◌, refl, ap, ◌∙◌}
 use mathlib.Core.Bool.{Bool, true, false}
 use mathlib.Core.List.{List, [], ◌∷◌, ◌++◌}
-use Prim.Native.Nat.{ℕ, suc, ◌+◌, ◌≤◌, ◌<◌}
+use Prim.Native.Nat.{ℕ, zero, suc, ◌+◌, ◌-◌, ◌≤◌, ◌<◌}
+use native.Mathlib.Numerals.{unary_clauses}
 use native.Mathlib.Omega.{arith}
 use lib.IntN.{ℤ, pos}
 use lib.ListN.{length, get_or, set, length-set}
@@ -10,35 +11,26 @@ use lib.Seq.{get_or-set_same, get_or-set_other}
 use lib.Dec.{eqb}
 use Rattle.language.specs.Limits.{max_levels}
 use borrow.Author.Tests.{eqb-true, eqb-false}
-use Rattle.assembler.specs.Exits.{Ahead, settled, filled}
-use Rattle.emitter.specs.Drafts.{exit_open, end_open, close_open, Cell, known, awaits, colon_at, fixup_byte, level_places}
-use Rattle.language.specs.Bytes.{colon_byte}
-use Rattle.assembler.proofs.ExitsLayout.{Back, with_at, before, backs}
+use Rattle.assembler.specs.Exits.{Ahead, settled, filled, level_of}
+use Rattle.emitter.specs.declared.pass.Open.{Open}
+use Rattle.emitter.specs.declared.pass.Open.TheVariants.{Known, Exit, End, Close, Colon}
+use Rattle.emitter.specs.Drafts.{Cell, cell, level_places}
+use Rattle.assembler.proofs.ExitsLayout.{Back, with_at, stepped, before, backs}
 
 -- ── a cell in the arrays ────────────────────────────────────────────────────────────────────────
 
 -- what the first pass leaves in a cell
 abbrev pub value_of : Cell → ℤ
-value_of (known z) = z
-value_of (awaits f v) = pos 0
-value_of (colon_at v z) = z
+value_of c = c.holds
 
--- the byte that it keeps for the cell
-abbrev pub kind_byte : Cell → ℕ
-kind_byte (known z) = 0
-kind_byte (awaits f v) = fixup_byte f
-kind_byte (colon_at v z) = colon_byte
-
--- the level that it keeps for the cell
-abbrev pub level_of : Cell → ℕ
-level_of (known z) = 0
-level_of (awaits f v) = v
-level_of (colon_at v z) = v
+-- what waits in it
+abbrev pub waits_of : Cell → Open
+waits_of c = c.waits
 
 -- every level is one of document 01's
 abbrev pub Low : List Cell → Type 0
 Low [] = Unit {0}
-Low (c ∷ l) = (level_of c ≤ max_levels) × Low l
+Low (c ∷ l) = (level_of c.waits ≤ max_levels) × Low l
 
 -- ── cells, last first ───────────────────────────────────────────────────────────────────────────
 
@@ -93,40 +85,54 @@ one_on n = omega arith
 cell_set : (s : List ℤ) (l : List Cell) (x : ℤ) (r : List ℤ) (w y : ℤ) → s ≡ onto value_of l (x ∷ r) → w ≡ y → set s (length l) w ≡ onto value_of l (y ∷ r)
 cell_set s l x r w y e f = ap (λ k. set k (length l) w) e ∙ set_next value_of l x r w ∙ ap (λ k. onto value_of l (k ∷ r)) f
 
-settle-cell : (a : Ahead) (l : List Cell) (c : Cell) (B : Back) (z : List ℤ) → level_of c ≤ max_levels
-    → Holds a (c ∷ l) B z → Holds (settled a (length l) (kind_byte c) (level_of c)) l (before c (suc (length l)) B) z
+settle-open : (a : Ahead) (l : List Cell) (x : ℤ) (o : Open) (B : Back) (z : List ℤ) → level_of o ≤ max_levels
+    → Holds a (cell x o ∷ l) B z → Holds (settled a (length l) o) l (stepped o x (suc (length l)) B) z
 unfolding settled
-settle-cell a l (known x) B z h e = record { cells_are = e.cells_are; falses-are = e.falses-are; ends-are = e.ends-are }
-settle-cell a l (awaits exit_open v) B z h e =
+settle-open a l x Known B z h e = record { cells_are = e.cells_are; falses-are = e.falses-are; ends-are = e.ends-are }
+settle-open a l x (Exit v) B z h e =
     record {
       cells_are = cell_set _ l _ _ _ _ e.cells_are (e.falses-are.each v (omega arith));
       falses-are = e.falses-are;
       ends-are = e.ends-are;
     }
-settle-cell a l (awaits end_open v) B z h e =
+settle-open a l x (End v) B z h e =
     record {
       cells_are = cell_set _ l _ _ _ _ e.cells_are (e.ends-are.each v (omega arith));
       falses-are = rw (two-on (length l)) (agree-set _ _ v _ e.falses-are (omega arith));
       ends-are = e.ends-are;
     }
-settle-cell a l (awaits close_open v) B z h e =
+settle-open a l x (Close v) B z h e =
     record {
       cells_are = cell_set _ l _ _ _ _ e.cells_are (e.falses-are.each v (omega arith));
       falses-are = rw (two-on (length l), one_on v) (agree-set _ _ (suc v) _ e.falses-are (omega arith));
       ends-are = rw (two-on (length l), one_on v) (agree-set _ _ (suc v) _ e.ends-are (omega arith));
     }
-settle-cell a l (colon_at v x) B z h e =
+settle-open a l x (Colon v) B z h e =
     record { cells_are = e.cells_are; falses-are = rw (two-on (length l)) (agree-set _ _ v _ e.falses-are (omega arith)); ends-are = e.ends-are }
+
+settle-cell : (a : Ahead) (l : List Cell) (c : Cell) (B : Back) (z : List ℤ) → level_of c.waits ≤ max_levels
+    → Holds a (c ∷ l) B z → Holds (settled a (length l) c.waits) l (before c (suc (length l)) B) z
+settle-cell a l c B z h e = settle-open a l c.holds c.waits B z h e
 
 -- ── all the cells ───────────────────────────────────────────────────────────────────────────────
 
-pub filled_is : (l r : List Cell) (K L : List ℕ) (z : List ℤ) (a : Ahead) → Low l → Holds a l (backs r (suc (length l))) z
-    → (filled (onto kind_byte l K) (onto level_of l L) (length l) a).cells ≡ (backs (onto (λ c. c) l r) 1).out ++ z
+-- one cell less
+pub filled_down : (os : List Open) (i : ℕ) (a : Ahead) → 0 < i → filled os i a ≡ filled os (i - 1) (settled a (i - 1) (get_or os (i - 1) Known))
 unfolding filled
-filled_is [] r K L z a low e = e.cells_are
-filled_is (c ∷ l) r K L z a low e =
-    let ks = onto kind_byte l (kind_byte c ∷ K) in
-    let ls = onto level_of l (level_of c ∷ L) in
-    ap (λ n. (filled ks ls (length l) (settled a (length l) n (get_or ls (length l) 0))).cells) (get-next kind_byte l (kind_byte c) K 0)
-    ∙ ap (λ n. (filled ks ls (length l) (settled a (length l) (kind_byte c) n)).cells) (get-next level_of l (level_of c) L 0)
-    ∙ filled_is l (c ∷ r) (kind_byte c ∷ K) (level_of c ∷ L) z _ low.1 (settle-cell a l c _ z low.0 e)
+filled_down os zero a h = absurd (omega arith)
+filled_down os (suc i) a h = simp unary_clauses
+
+-- no cell is left
+pub filled_none : (os : List Open) (i : ℕ) (a : Ahead) → i ≤ 0 → filled os i a ≡ a
+unfolding filled
+filled_none os zero a h = refl
+filled_none os (suc i) a h = absurd (omega arith)
+
+pub filled_is : (l r : List Cell) (O : List Open) (z : List ℤ) (a : Ahead) → Low l → Holds a l (backs r (suc (length l))) z
+    → (filled (onto waits_of l O) (length l) a).cells ≡ (backs (onto (λ c. c) l r) 1).out ++ z
+unfolding filled
+filled_is [] r O z a low e = e.cells_are
+filled_is (c ∷ l) r O z a low e =
+    let os = onto waits_of l (c.waits ∷ O) in
+    ap (λ o. (filled os (length l) (settled a (length l) o)).cells) (get-next waits_of l c.waits O Known)
+    ∙ filled_is l (c ∷ r) (c.waits ∷ O) z _ low.1 (settle-cell a l c _ z low.0 e)

@@ -12,7 +12,9 @@ use Rattle.language.specs.Letters.{letter_byte}
 use Rattle.language.specs.Syntax.{operator_byte, access_byte, condition_byte, constant_code, Operation, operator, variable, constant, print}
 use Rattle.language.specs.Syntax.{Predicate, condition, counter, Expr, close, semi, colon, operate, test, call, inner}
 use Rattle.language.specs.Layout.{forward, after_operation, after_predicate, after_call, after_expr, false_exit, opcode, byte_cells, operation_cells, expr_cells}
-use Rattle.emitter.specs.Drafts.{exit_open, end_open, close_open, Cell, known, awaits, colon_at, semi_at, close_at, operand_cells, test_cells, counter_cells, known_bytes, print_cells}
+use Rattle.emitter.specs.declared.pass.Open.{Open}
+use Rattle.emitter.specs.declared.pass.Open.TheVariants.{Known, Exit, End, Close, Colon}
+use Rattle.emitter.specs.Drafts.{Cell, known, colon_at, semi_at, close_at, operand_cells, test_cells, counter_cells, known_bytes, print_cells}
 
 -- ── the first pass ──────────────────────────────────────────────────────────────────────────────
 
@@ -58,13 +60,17 @@ back o f e = record { out = o; false_of = f; end_of = e }
 abbrev pub with_at : (ℕ → ℤ) → ℕ → ℤ → ℕ → ℤ
 with_at f v z j = cond (eqb j v) z (f j)
 
--- one more cell, cell q
+-- one more cell, cell q, that holds z, and what waits in it
+abbrev pub stepped : Open → ℤ → ℕ → Back → Back
+stepped Known z q b = back (z ∷ b.out) b.false_of b.end_of
+stepped (Exit v) z q b = back (b.false_of v ∷ b.out) b.false_of b.end_of
+stepped (End v) z q b = back (b.end_of v ∷ b.out) (with_at b.false_of v (pos (suc q))) b.end_of
+stepped (Close v) z q b = back (b.false_of v ∷ b.out) (with_at b.false_of (suc v) (pos (suc q))) (with_at b.end_of (suc v) (pos (suc q)))
+stepped (Colon v) z q b = back (z ∷ b.out) (with_at b.false_of v (pos (suc q))) b.end_of
+
+-- the same of a cell
 abbrev pub before : Cell → ℕ → Back → Back
-before (known z) q b = back (z ∷ b.out) b.false_of b.end_of
-before (awaits exit_open v) q b = back (b.false_of v ∷ b.out) b.false_of b.end_of
-before (awaits end_open v) q b = back (b.end_of v ∷ b.out) (with_at b.false_of v (pos (suc q))) b.end_of
-before (awaits close_open v) q b = back (b.false_of v ∷ b.out) (with_at b.false_of (suc v) (pos (suc q))) (with_at b.end_of (suc v) (pos (suc q)))
-before (colon_at v z) q b = back (z ∷ b.out) (with_at b.false_of v (pos (suc q))) b.end_of
+before c q b = stepped c.waits c.holds q b
 
 -- cells from cell q on
 abbrev pub backs : List Cell → ℕ → Back

@@ -9,12 +9,14 @@ use Rattle.language.specs.Limits.{max_cells, max_levels}
 use Rattle.language.specs.Letters.{letter_byte}
 use Rattle.language.specs.Syntax.{print_code, Operation, operator, variable, constant, print, Predicate, condition, counter, Expr, close, semi, colon, operate, test, call, inner}
 use Rattle.language.specs.Layout.{after_operation, after_predicate, after_call, after_expr, false_exit, used_cells, opcode, byte_cells, operation_cells, predicate_cells, expr_cells, first_cell, code_start, layout}
-use Rattle.emitter.specs.Drafts.{Cell, known, awaits, colon_at, fixup_byte, level_places, Draft, more, put, lay}
-use Rattle.language.specs.Bytes.{colon_byte}
-use Rattle.assembler.specs.Exits.{Ahead, ahead, filled, linked_cells}
+use Rattle.emitter.specs.declared.pass.Open.{Open}
+use Rattle.emitter.specs.declared.pass.Open.TheVariants.{Known}
+use Rattle.emitter.specs.declared.pass.Draft.{Draft}
+use Rattle.emitter.specs.Drafts.{Cell, known, level_places, put, lay}
+use Rattle.assembler.specs.Exits.{filled, linked, nothing_ahead, level_of}
 use Rattle.assembler.specs.Scanning.{Ready}
 use Rattle.assembler.proofs.ExitsLayout.{emit, backs, laid}
-use Rattle.assembler.proofs.ExitsFilling.{value_of, kind_byte, level_of, Low, onto, set_next, Agree, filled_is}
+use Rattle.assembler.proofs.ExitsFilling.{value_of, waits_of, Low, onto, set_next, Agree, filled_is}
 
 -- the cells of l upon R, whose cells stand last first
 abbrev pub pile : List Cell → List Cell → List Cell
@@ -30,8 +32,7 @@ pile-append (c ∷ l) r R = pile-append l r (c ∷ R)
 -- the cells of R, last first, and then n cells that are 0
 pub record Cells (d : Draft) (R : List Cell) (n : ℕ) : Type 0 where
   pub values-are : d.cells ≡ onto value_of R (replicate n (pos 0))
-  pub kinds-are : d.kinds ≡ onto kind_byte R (replicate n 0)
-  pub levels-are : d.levels ≡ onto level_of R (replicate n 0)
+  pub opens-are : d.opens ≡ onto waits_of R (replicate n Known)
   pub used-is : d.used ≡ length R
   pub room : length R + n ≡ max_cells
   pub low : Low R
@@ -40,52 +41,18 @@ set-used : {A : Type 0} (f : Cell → A) (s : List A) (u : ℕ) (R : List Cell) 
     → set s u y ≡ onto f R (y ∷ X)
 set-used f s u R x y X e k = ap (λ s. set s u y) e ∙ ap (λ u. set (onto f R (x ∷ X)) u y) k ∙ set_next f R x X y
 
-module _ (d : Draft) (R : List Cell) (n : ℕ) where
-  values-put : (c : Cell) → Cells d R (suc n) → (put d c).cells ≡ onto value_of (c ∷ R) (replicate n (pos 0))
-  values-put (known z) k = set-used value_of _ _ R _ z _ k.values-are k.used-is
-  values-put (awaits f v) k = k.values-are
-  values-put (colon_at v z) k = set-used value_of _ _ R _ z _ k.values-are k.used-is
-
-  kinds-put : (c : Cell) → Cells d R (suc n) → (put d c).kinds ≡ onto kind_byte (c ∷ R) (replicate n 0)
-  kinds-put (known z) k = k.kinds-are
-  kinds-put (awaits f v) k = set-used kind_byte _ _ R _ (fixup_byte f) _ k.kinds-are k.used-is
-  kinds-put (colon_at v z) k = set-used kind_byte _ _ R _ colon_byte _ k.kinds-are k.used-is
-
-  levels-put : (c : Cell) → Cells d R (suc n) → (put d c).levels ≡ onto level_of (c ∷ R) (replicate n 0)
-  levels-put (known z) k = k.levels-are
-  levels-put (awaits f v) k = set-used level_of _ _ R _ v _ k.levels-are k.used-is
-  levels-put (colon_at v z) k = set-used level_of _ _ R _ v _ k.levels-are k.used-is
-
 -- what one more cell leaves alone
 pub record Kept (d e : Draft) : Type 0 where
-  pub fault-kept : e.fault ≡ d.fault
   pub level-kept : e.level ≡ d.level
   pub counters-kept : e.counters ≡ d.counters
   pub starts-kept : e.starts ≡ d.starts
 
-same_kept : (d : Draft) → Kept d d
-same_kept d = record { fault-kept = refl; level-kept = refl; counters-kept = refl; starts-kept = refl }
-
-more-kept : (d : Draft) (x : List ℤ) (y z : List ℕ) → Kept d (more d x y z)
-more-kept d x y z = record { fault-kept = refl; level-kept = refl; counters-kept = refl; starts-kept = refl }
-
-put-kept : (d : Draft) (c : Cell) → Kept d (put d c)
-put-kept d (known z) = more-kept d _ _ _
-put-kept d (awaits f v) = more-kept d _ _ _
-put-kept d (colon_at v z) = more-kept d _ _ _
-
-put-used : (d : Draft) (c : Cell) → (put d c).used ≡ d.used + 1
-put-used d (known z) = refl
-put-used d (awaits f v) = refl
-put-used d (colon_at v z) = refl
-
-put-cells : (d : Draft) (R : List Cell) (n : ℕ) (c : Cell) → level_of c ≤ max_levels → Cells d R (suc n) → Cells (put d c) (c ∷ R) n
+put-cells : (d : Draft) (R : List Cell) (n : ℕ) (c : Cell) → level_of c.waits ≤ max_levels → Cells d R (suc n) → Cells (put d c) (c ∷ R) n
 put-cells d R n c h k =
     record {
-      values-are = values-put d R n c k;
-      kinds-are = kinds-put d R n c k;
-      levels-are = levels-put d R n c k;
-      used-is = omega (arith, put-used d c, k.used-is);
+      values-are = set-used value_of _ _ R _ _ _ k.values-are k.used-is;
+      opens-are = set-used waits_of _ _ R _ _ _ k.opens-are k.used-is;
+      used-is = omega (arith, k.used-is);
       room = omega (arith, k.room);
       low = (h, k.low);
     }
@@ -103,35 +70,31 @@ grown d R n cs h k r =
     lay-cells d R (n - length cs) cs h (rw e at k)
 
 pub lay-kept : (d : Draft) (cs : List Cell) → Kept d (lay d cs)
-lay-kept d [] = same_kept d
+lay-kept d [] = record { level-kept = refl; counters-kept = refl; starts-kept = refl }
 lay-kept d (c ∷ cs) =
-    let p = put-kept d c in
     let k = lay-kept (put d c) cs in
-    record {
-      fault-kept = k.fault-kept ∙ p.fault-kept;
-      level-kept = k.level-kept ∙ p.level-kept;
-      counters-kept = k.counters-kept ∙ p.counters-kept;
-      starts-kept = k.starts-kept ∙ p.starts-kept;
-    }
+    record { level-kept = k.level-kept; counters-kept = k.counters-kept; starts-kept = k.starts-kept }
 
 pub lay-used : (d : Draft) (cs : List Cell) → (lay d cs).used ≡ d.used + length cs
 lay-used d [] = omega arith
-lay-used d (c ∷ cs) = omega (arith, lay-used (put d c) cs, put-used d c)
+lay-used d (c ∷ cs) = omega (arith, lay-used (put d c) cs)
 
 -- ── the levels are small ────────────────────────────────────────────────────────────────────────
 
-zeros-low : (n k : ℕ) → get_or (replicate n 0) k 0 ≤ max_levels
-zeros-low zero k = omega arith
-zeros-low (suc n) zero = omega arith
-zeros-low (suc n) (suc k) = zeros-low n k
+rest-low : (n k : ℕ) → level_of (get_or (replicate n Known) k Known) ≤ max_levels
+rest-low zero k = omega arith
+rest-low (suc n) zero = omega arith
+rest-low (suc n) (suc k) = rest-low n k
 
-on-low : (x : ℕ) (X : List ℕ) → x ≤ max_levels → ((k : ℕ) → get_or X k 0 ≤ max_levels) → (k : ℕ) → get_or (x ∷ X) k 0 ≤ max_levels
-on-low x X h f zero = h
-on-low x X h f (suc k) = f k
+on-low : (o : Open) (X : List Open) → level_of o ≤ max_levels → ((k : ℕ) → level_of (get_or X k Known) ≤ max_levels)
+    → (k : ℕ) → level_of (get_or (o ∷ X) k Known) ≤ max_levels
+on-low o X h f zero = h
+on-low o X h f (suc k) = f k
 
-onto-low : (R : List Cell) (X : List ℕ) → Low R → ((k : ℕ) → get_or X k 0 ≤ max_levels) → (k : ℕ) → get_or (onto level_of R X) k 0 ≤ max_levels
+onto-low : (R : List Cell) (X : List Open) → Low R → ((k : ℕ) → level_of (get_or X k Known) ≤ max_levels)
+    → (k : ℕ) → level_of (get_or (onto waits_of R X) k Known) ≤ max_levels
 onto-low [] X h f = f
-onto-low (c ∷ R) X h f = onto-low R (level_of c ∷ X) h.1 (on-low (level_of c) X h.0 f)
+onto-low (c ∷ R) X h f = onto-low R (c.waits ∷ X) h.1 (on-low c.waits X h.0 f)
 
 -- ── a whole text ────────────────────────────────────────────────────────────────────────────────
 
@@ -176,16 +139,16 @@ text_cells w = emit w 0 code_start code_start (known (pos 1) ∷ [])
 abbrev pub head_cell : List Cell
 head_cell = known (pos first_cell) ∷ []
 
-pub ready : (d : Draft) (w : Expr) (n : ℕ) → Cells d (pile (text_cells w) head_cell) n → d.used ≡ used_cells w → Ready w d.used d.cells d.kinds d.levels
-unfolding linked_cells
+pub ready : (d : Draft) (w : Expr) (n : ℕ) → Cells d (pile (text_cells w) head_cell) n → d.used ≡ used_cells w → Ready w d
+unfolding linked
 ready d w n k u =
     let R = pile (text_cells w) head_cell in
-    let a : Ahead = ahead d.cells (replicate level_places (pos 0)) (replicate level_places (pos 0)) in
-    let f : (filled d.kinds d.levels d.used a).cells ≡ (backs (onto (λ c. c) R []) 1).out ++ replicate n (pos 0) =
-    ap (λ x. (filled x d.levels d.used a).cells) k.kinds-are
-    ∙ ap (λ x. (filled (onto kind_byte R (replicate n 0)) x d.used a).cells) k.levels-are
-    ∙ ap (λ x. (filled (onto kind_byte R (replicate n 0)) (onto level_of R (replicate n 0)) x a).cells) k.used-is
-    ∙ filled_is R [] (replicate n 0) (replicate n 0) (replicate n (pos 0)) a k.low (record { cells_are = k.values-are; falses-are = zeros-agree; ends-are = zeros-agree }) in
+    let O = replicate n Known in
+    let a = nothing_ahead d.cells in
+    let f : (filled d.opens d.used a).cells ≡ (backs (onto (λ c. c) R []) 1).out ++ replicate n (pos 0) =
+    ap (λ x. (filled x d.used a).cells) k.opens-are
+    ∙ ap (λ x. (filled (onto waits_of R O) x a).cells) k.used-is
+    ∙ filled_is R [] O (replicate n (pos 0)) a k.low (record { cells_are = k.values-are; falses-are = zeros-agree; ends-are = zeros-agree }) in
     let m : n ≡ max_cells - used_cells w = omega (arith, k.room, k.used-is) in
     let g = laid w 0 code_start 0 code_start (known (pos 1) ∷ []) refl in
     let o : (backs (onto (λ c. c) R []) 1).out ++ replicate n (pos 0) ≡ (layout w).cells =
@@ -195,7 +158,10 @@ ready d w n k u =
     ∙ ap (λ x. pos first_cell ∷ expr_cells w code_start (used_cells w) 0 code_start (pos 1 ∷ replicate x (pos 0))) m in
     record {
       all = u;
-      small = omega (arith, k.room, k.used-is);
-      shallow = λ j. subst (λ l. get_or l j 0 ≤ max_levels) (sym k.levels-are) (onto-low R (replicate n 0) k.low (zeros-low n) j);
+      fillable =
+          record {
+            small = omega (arith, k.room, k.used-is);
+            shallow = λ j. subst (λ l. level_of (get_or l j Known) ≤ max_levels) (sym k.opens-are) (onto-low R O k.low (rest-low n) j);
+          };
       cells_are = f ∙ o;
     }

@@ -2,7 +2,7 @@
 use mathlib.Core.Path.{◌≡◌, refl, sym, ap, ◌∙◌, subst}
 use mathlib.Core.Bool.{Bool, true, false}
 use mathlib.Core.List.{List, [], ◌∷◌, ◌++◌}
-use mathlib.Core.Logic.{inl, inr}
+use mathlib.Core.Logic.{◌⊎◌, inl, inr}
 use Prim.Native.Nat.{ℕ, suc, ◌+◌, ◌-◌, ◌≤◌, ◌<◌}
 use native.Mathlib.Omega.{arith}
 use lib.IntN.{ℤ, pos}
@@ -11,23 +11,24 @@ use lib.Seq.{get_or-set_same, get_or-set_other}
 use lib.Dec.{leb}
 use borrow.Author.Tests.{leb-true, leb-false, le-leb, lt-leb, lt-ltb, le-ltb}
 use Rattle.language.specs.Limits.{max_cells, max_levels, max_counters}
-use Rattle.std.specs.Prelude.{Some, None}
+use Rattle.std.specs.Prelude.{Result, Ok, Err}
 use Rattle.language.specs.declared.Fault.{Fault}
-use Rattle.language.specs.declared.Fault.TheVariants.{Deep, Unfinished, TableFull, ManyCounters}
+use Rattle.language.specs.declared.Fault.TheVariants.{TableFull}
 use Rattle.language.specs.Syntax.{Operation, operator, variable, constant, print}
 use Rattle.language.specs.Syntax.{condition, counter, Expr, close, semi, colon, operate, test, call, inner}
-use Rattle.language.specs.Tokens.{Token, opens, closes, semis, colons, begins, does, asks, counts, calls}
+use Rattle.language.specs.Tokens.{Token, opens, closes, semis, colons, begins, faults, does, asks, counts, calls}
 use Rattle.language.specs.Layout.{after_operation, after_predicate, after_expr, used_cells, code_start, opcode}
 use Rattle.language.specs.Reading.{Reading, refused, Place, inside, whole, require, extend, within, parse}
 use Rattle.lexer.specs.declared.Token as Lexer
 use Rattle.lexer.specs.declared.Token.TheVariants as T
 use Rattle.lexer.specs.Lexing.{Means}
-use Rattle.emitter.specs.Drafts.{level_places, Cell, known, semi_at, close_at, colon_at, Draft, lay, fit, at_level, opened, closed, coloned, operand_cells, test_cells, counter_cells, count_on, counted, known_bytes}
+use Rattle.emitter.specs.declared.pass.Draft.{Draft}
+use Rattle.emitter.specs.Drafts.{level_places, Cell, known, semi_at, close_at, colon_at, lay, fit, at_level, opened, closed, coloned, operand_cells, test_cells, counter_cells, count_on, counted, known_bytes}
 use Rattle.assembler.specs.Taking.{taken}
 use Rattle.assembler.specs.Scanning.{Ready}
 use Rattle.language.proofs.LayoutPositions.{forward-add}
 use Rattle.language.proofs.Tests.{by-ltb}
-use Rattle.emitter.proofs.Drafts.{fit-room, fit-full, open-room, open_full, close-last, close-inner, count_room, count-full, bytes-length}
+use Rattle.emitter.proofs.Drafts.{fit_room, fit_full, open_room, open_full, close_last, close_inner, count_room, count_full, bytes_length}
 use Rattle.assembler.proofs.ExitsLayout.{operation_draft, predicate_draft, call_draft, emit}
 use Rattle.assembler.proofs.ExitsFilling.{Low}
 use Rattle.assembler.proofs.ScanningCells.{pile, pile-append, Cells, grown, lay-kept, lay-used, text_cells, head_cell, ready}
@@ -47,7 +48,6 @@ Around (g ∷ st) h R F =
 
 -- The draft d is the image of the parser's place inside the expression f, with st around it, cell q next and c counters so far.
 pub record Image (d : Draft) (f : Expr → Expr) (st : List (Expr → Expr)) (q c : ℕ) : Type 0 where
-  pub fault-is : d.fault ≡ None
   pub level-is : d.level ≡ suc (length st)
   pub counters-are : d.counters ≡ c
   pub deep : length st ≤ max_levels - 1
@@ -61,11 +61,15 @@ pub record Image (d : Draft) (f : Expr → Expr) (st : List (Expr → Expr)) (q 
   pub here : Context f (length st) start q outer inner-cells
   pub around : Around st start outer d.starts
 
--- After a token: the text is refused, or the parser goes on over l inside the expression, or after it.
-pub data Outcome (P : Reading) (l : List Token) (d : Draft) : Type 0 where
-  stops : (why : Fault) → P ≡ refused why → d.fault ≡ Some why → Outcome P l d
-  goes : (f : Expr → Expr) (st : List (Expr → Expr)) (q c : ℕ) → P ≡ parse l (inside f st q c) → Image d f st q c → Outcome P l d
-  closes-all : (w : Expr) → P ≡ parse l (whole w) → d.fault ≡ None → d.level ≡ 0 → Ready w d.used d.cells d.kinds d.levels → Outcome P l d
+-- The parser goes on over l inside the expression, or after it.
+pub data Stands (P : Reading) (l : List Token) (d : Draft) : Type 0 where
+  goes : (f : Expr → Expr) (st : List (Expr → Expr)) (q c : ℕ) → P ≡ parse l (inside f st q c) → Image d f st q c → Stands P l d
+  closes-all : (w : Expr) → P ≡ parse l (whole w) → d.level ≡ 0 → Ready w d → Stands P l d
+
+-- After a token: the text is refused, or the parser goes on.
+abbrev pub Outcome : Reading → List Token → Result Draft Fault → Type 0
+Outcome P l (Ok d) = Stands P l d
+Outcome P l (Err why) = P ≡ refused why
 
 -- ── positions ───────────────────────────────────────────────────────────────────────────────────
 
@@ -73,7 +77,7 @@ operation-far : (o : Operation) (q : ℕ) → after_operation o q ≡ q + length
 operation-far (operator o) q = omega arith
 operation-far (variable a k) q = omega arith
 operation-far (constant v) q = omega arith
-operation-far (print b) q = omega (arith, forward-add (length b) (suc (suc q)), bytes-length b)
+operation-far (print b) q = omega (arith, forward-add (length b) (suc (suc q)), bytes_length b)
 
 start-here : (st : List (Expr → Expr)) (h : ℕ) (R : List Cell) (F : List ℤ) → Around st h R F → get_or F (suc (length st)) (pos 0) ≡ pos h
 start-here [] h R F a = a.2 ∙ ap pos (sym a.0)
@@ -111,7 +115,6 @@ module _ (l : List Token) (d : Draft) (f g : Expr → Expr) (st : List (Expr →
     image h =
         let k = lay-kept d cs in
         record {
-          fault-is = k.fault-kept ∙ im.fault-is;
           level-is = k.level-kept ∙ im.level-is;
           counters-are = k.counters-kept ∙ im.counters-are;
           deep = im.deep;
@@ -133,10 +136,10 @@ module _ (l : List Token) (d : Draft) (f g : Expr → Expr) (st : List (Expr →
     extended : Outcome (extend (λ e. f (g e)) st q' c (λ p. parse l p)) l (fit d cs)
     extended =
         by-leb (d.used + length cs) max_cells (Outcome (extend (λ e. f (g e)) st q' c (λ p. parse l p)) l (fit d cs))
-        (λ h. subst (λ x. Outcome (extend (λ e. f (g e)) st q' c (λ p. parse l p)) l x) (sym (fit-room d cs h))
+        (λ h. subst (λ x. Outcome (extend (λ e. f (g e)) st q' c (λ p. parse l p)) l x) (sym (fit_room d cs h))
         (goes (λ e. f (g e)) st q' c (extend-room (λ e. f (g e)) st q' c (λ p. parse l p) (omega (arith, far, im.size))) (image h)))
-        (λ h. subst (λ x. Outcome (extend (λ e. f (g e)) st q' c (λ p. parse l p)) l x) (sym (fit-full d cs h))
-        (stops TableFull (extend-full (λ e. f (g e)) st q' c (λ p. parse l p) (omega (arith, far, im.size))) refl))
+        (λ h. subst (λ x. Outcome (extend (λ e. f (g e)) st q' c (λ p. parse l p)) l x) (sym (fit_full d cs h))
+        (extend-full (λ e. f (g e)) st q' c (λ p. parse l p) (omega (arith, far, im.size))))
 
 -- ── parentheses ─────────────────────────────────────────────────────────────────────────────────
 
@@ -146,7 +149,6 @@ module _ (l : List Token) (d : Draft) (f : Expr → Expr) (st : List (Expr → E
       let e : d.level + 1 ≡ suc (suc (length st)) = omega (arith, im.level-is) in
       let k = im.cells_are in
       record {
-        fault-is = im.fault-is;
         level-is = e;
         counters-are = im.counters-are;
         deep = h;
@@ -156,7 +158,7 @@ module _ (l : List Token) (d : Draft) (f : Expr → Expr) (st : List (Expr → E
         outer = im.inner-cells;
         inner-cells = im.inner-cells;
         spare = im.spare;
-        cells_are = record { values-are = k.values-are; kinds-are = k.kinds-are; levels-are = k.levels-are; used-is = k.used-is; room = k.room; low = k.low };
+        cells_are = record { values-are = k.values-are; opens-are = k.opens-are; used-is = k.used-is; room = k.room; low = k.low };
         here = record { emits = λ e r. refl; reaches = λ e. refl };
         around =
             subst (λ v. Around (f ∷ st) q im.inner-cells (set d.starts v (pos (d.used + 1)))) (sym e) (
@@ -172,15 +174,15 @@ module _ (l : List Token) (d : Draft) (f : Expr → Expr) (st : List (Expr → E
   unfolding within require
   opening =
       by-ltb (length st) (max_levels - 1) (λ _. Outcome (within opens f st q c (λ p. parse l p)) l (opened d))
-      (λ h. subst (λ x. Outcome (within opens f st q c (λ p. parse l p)) l x) (sym (open-room d (omega (arith, im.level-is))))
+      (λ h. subst (λ x. Outcome (within opens f st q c (λ p. parse l p)) l x) (sym (open_room d (omega (arith, im.level-is))))
       (goes (λ e. e) (f ∷ st) q c (simp (le-leb (suc (suc (length st))) max_levels (omega arith))) (image-open h)))
       (λ h. subst (λ x. Outcome (within opens f st q c (λ p. parse l p)) l x) (sym (open_full d (omega (arith, im.level-is))))
-      (stops Deep (simp (lt-leb (suc (suc (length st))) max_levels (omega arith))) refl))
+      (simp (lt-leb (suc (suc (length st))) max_levels (omega arith))))
 
 -- the same draft at another level
 same-cells : (d : Draft) (R : List Cell) (n v : ℕ) → Cells d R n → Cells (at_level d v d.starts) R n
 same-cells d R n v k =
-    record { values-are = k.values-are; kinds-are = k.kinds-are; levels-are = k.levels-are; used-is = k.used-is; room = k.room; low = k.low }
+    record { values-are = k.values-are; opens-are = k.opens-are; used-is = k.used-is; room = k.room; low = k.low }
 
 -- an inner `)`
 module _ (l : List Token) (d : Draft) (f g : Expr → Expr) (st : List (Expr → Expr)) (q c : ℕ) (im : Image d f (g ∷ st) q c) where
@@ -194,7 +196,6 @@ module _ (l : List Token) (d : Draft) (f g : Expr → Expr) (st : List (Expr →
   image-close h =
       let a = im.around in
       record {
-        fault-is = im.fault-is;
         level-is = refl;
         counters-are = im.counters-are;
         deep = omega (arith, im.deep);
@@ -221,13 +222,13 @@ module _ (l : List Token) (d : Draft) (f g : Expr → Expr) (st : List (Expr →
       let P = extend (λ e. g (inner (f close) e)) st (suc q) c (λ p. parse l p) in
       let v : d.level - 1 ≡ suc (length st) = omega (arith, im.level-is) in
       let z : closed d ≡ fit lowered closing =
-      close-inner d (λ e. omega (arith, im.level-is)) ∙ ap (λ v. fit (at_level d v d.starts) (close_at v ∷ [])) v in
+      close_inner d (λ e. omega (arith, im.level-is)) ∙ ap (λ v. fit (at_level d v d.starts) (close_at v ∷ [])) v in
       subst (λ x. Outcome P l x) (sym z)
       (by-leb (d.used + 1) max_cells (Outcome P l (fit lowered closing))
-      (λ h. subst (λ x. Outcome P l x) (sym (fit-room lowered closing h))
+      (λ h. subst (λ x. Outcome P l x) (sym (fit_room lowered closing h))
       (goes (λ e. g (inner (f close) e)) st (suc q) c (extend-room (λ e. g (inner (f close) e)) st (suc q) c (λ p. parse l p) (omega (arith, im.size))) (image-close h)))
-      (λ h. subst (λ x. Outcome P l x) (sym (fit-full lowered closing h))
-      (stops TableFull (extend-full (λ e. g (inner (f close) e)) st (suc q) c (λ p. parse l p) (omega (arith, im.size))) refl)))
+      (λ h. subst (λ x. Outcome P l x) (sym (fit_full lowered closing h))
+      (extend-full (λ e. g (inner (f close) e)) st (suc q) c (λ p. parse l p) (omega (arith, im.size)))))
 
 -- the last `)`
 module _ (l : List Token) (d : Draft) (f : Expr → Expr) (q c : ℕ) (im : Image d f [] q c) where
@@ -238,7 +239,7 @@ module _ (l : List Token) (d : Draft) (f : Expr → Expr) (q c : ℕ) (im : Imag
   last-cells = close_at 0 ∷ known (pos 1) ∷ []
 
   table : d.used + 2 ≤ max_cells
-      → Ready (f close) (lay outside-all last-cells).used (lay outside-all last-cells).cells (lay outside-all last-cells).kinds (lay outside-all last-cells).levels
+      → Ready (f close) (lay outside-all last-cells)
   table h =
       let a = im.around in
       let k = grown outside-all im.inner-cells im.spare last-cells (omega arith, (omega arith, tt)) (same-cells d im.inner-cells im.spare 0 im.cells_are) h in
@@ -254,12 +255,12 @@ module _ (l : List Token) (d : Draft) (f : Expr → Expr) (q c : ℕ) (im : Imag
   closing-last =
       let P = within closes f [] q c (λ p. parse l p) in
       let v : d.level - 1 ≡ 0 = omega (arith, im.level-is) in
-      let z : closed d ≡ fit outside-all last-cells = close-last d v ∙ ap (λ v. fit (at_level d v d.starts) (close_at v ∷ known (pos 1) ∷ [])) v in
+      let z : closed d ≡ fit outside-all last-cells = close_last d v ∙ ap (λ v. fit (at_level d v d.starts) (close_at v ∷ known (pos 1) ∷ [])) v in
       subst (λ x. Outcome P l x) (sym z)
       (by-leb (d.used + 2) max_cells (Outcome P l (fit outside-all last-cells))
-      (λ h. subst (λ x. Outcome P l x) (sym (fit-room outside-all last-cells h))
-      (closes-all (f close) (simp (le-leb (suc q) max_cells (omega (arith, im.size)))) im.fault-is refl (table h)))
-      (λ h. subst (λ x. Outcome P l x) (sym (fit-full outside-all last-cells h)) (stops TableFull (simp (lt-leb (suc q) max_cells (omega (arith, im.size)))) refl)))
+      (λ h. subst (λ x. Outcome P l x) (sym (fit_room outside-all last-cells h))
+      (closes-all (f close) (simp (le-leb (suc q) max_cells (omega (arith, im.size)))) refl (table h)))
+      (λ h. subst (λ x. Outcome P l x) (sym (fit_full outside-all last-cells h)) (simp (lt-leb (suc q) max_cells (omega (arith, im.size))))))
 
 closing-any : (l : List Token) (d : Draft) (f : Expr → Expr) (st : List (Expr → Expr)) (q c : ℕ) → Image d f st q c
     → Outcome (within closes f st q c (λ p. parse l p)) l (closed d)
@@ -274,7 +275,6 @@ module _ (l : List Token) (d : Draft) (f : Expr → Expr) (st : List (Expr → E
   image-count =
       let k = im.cells_are in
       record {
-        fault-is = im.fault-is;
         level-is = im.level-is;
         counters-are = omega (arith, im.counters-are);
         deep = im.deep;
@@ -284,7 +284,7 @@ module _ (l : List Token) (d : Draft) (f : Expr → Expr) (st : List (Expr → E
         outer = im.outer;
         inner-cells = im.inner-cells;
         spare = im.spare;
-        cells_are = record { values-are = k.values-are; kinds-are = k.kinds-are; levels-are = k.levels-are; used-is = k.used-is; room = k.room; low = k.low };
+        cells_are = record { values-are = k.values-are; opens-are = k.opens-are; used-is = k.used-is; room = k.room; low = k.low };
         here = im.here;
         around = im.around;
       }
@@ -304,7 +304,7 @@ module _ (l : List Token) (d : Draft) (f : Expr → Expr) (st : List (Expr → E
       (subst (λ x. Outcome x l (fit (count_on d) (counter_cells (suc m) c (suc (length st))))) (sym p)
       (extended l (count_on d) f (test (counter m c)) st q (suc c) (after_predicate (counter m c) q) (counter_cells (suc m) c (suc (length st))) image-count
       (omega arith, (omega arith, (omega arith, (omega (arith, im.deep), tt)))) (omega arith) (λ e r. refl) (λ e. refl))))
-      (λ h. subst (λ x. Outcome P l x) (sym (count-full d (suc m) (omega (arith, im.counters-are)))) (stops ManyCounters (simp (le-ltb c max_counters h)) refl))
+      (λ h. subst (λ x. Outcome P l x) (sym (count_full d (suc m) (omega (arith, im.counters-are)))) (simp (le-ltb c max_counters h)))
 
 -- ── one token ───────────────────────────────────────────────────────────────────────────────────
 
@@ -324,7 +324,7 @@ module _ (s : List ℕ) (l : List Token) (d : Draft) (f : Expr → Expr) (st : L
   at = inside f st q c
 
   -- from the tokens t that stand there
-  from : (t t' : List Token) (e : Draft) → t ≡ t' → Outcome (parse t' at) l e → Outcome (parse t at) l e
+  from : (t t' : List Token) (e : Result Draft Fault) → t ≡ t' → Outcome (parse t' at) l e → Outcome (parse t at) l e
   from t t' e p o = subst (λ t. Outcome (parse t at) l e) (sym p) o
 
   -- cells at the draft's level
@@ -334,12 +334,14 @@ module _ (s : List ℕ) (l : List Token) (d : Draft) (f : Expr → Expr) (st : L
   operating-on : (o : Operation) → Outcome (extend (λ e. f (operate o e)) st (after_operation o q) c (λ p. parse l p)) l (fit d (operation_draft o))
   operating-on o = extended l d f (operate o) st q c (after_operation o q) (operation_draft o) im (operation-low o) (operation-far o q) (λ e r. refl) (λ e. refl)
 
+  pub one_fault : (r : Fault) (ts : List Token) → (ts ≡ faults r ∷ []) ⊎ (ts ≡ begins ∷ faults r ∷ []) → parse ts at ≡ refused r
+  unfolding parse
+  one_fault r ts (inl m) = ap (λ t. parse t at) m
+  one_fault r ts (inr m) = ap (λ t. parse t at) m
+
   pub one_token : (t : Lexer.Token) (ts : List Token) → Means s t ts l → Outcome (parse ts at) l (taken s t d)
   unfolding parse within taken coloned
-  one_token T.Blank ts m = goes f st q c (ap (λ t. parse t at) m) im
-  one_token T.End ts m = stops Unfinished (ap (λ t. parse t at) m) refl
-  one_token (T.Fault r) ts (inl m) = stops r (ap (λ t. parse t at) m) refl
-  one_token (T.Fault r) ts (inr m) = stops r (ap (λ t. parse t at) m) refl
+  one_token T.End ts m = ap (λ t. parse t at) m
   one_token T.Open ts m = from ts (opens ∷ l) (opened d) m (opening l d f st q c im)
   one_token T.Close ts m = from ts (closes ∷ l) (closed d) m (closing-any l d f st q c im)
   one_token T.Semicolon ts m =

@@ -1,19 +1,18 @@
 -- What the first pass makes of a token.
-use Rattle.std.specs.Prelude.{List, [], ◌∷◌, ℕ, ◌+◌, ◌≤◌, pos, length, take, drop}
+use Rattle.std.specs.Prelude.{Result, Err, List, [], ◌∷◌, ℕ, ◌+◌, ◌≤◌, pos, length, take, drop}
 use Rattle.language.specs.Limits.{max_text, max_limit}
 use Rattle.language.specs.Syntax.{constant_code}
 use Rattle.language.specs.Layout.{opcode}
+use Rattle.language.specs.declared.Fault.{Fault}
 use Rattle.language.specs.declared.Fault.TheVariants.{Unfinished}
 use Rattle.lexer.specs.declared.Token as Lexer
 use Rattle.lexer.specs.declared.Token.TheVariants as T
-use Rattle.emitter.specs.declared.pass.Pass.{Pass}
-use Rattle.emitter.specs.Drafts.{known, semi_at, Draft, refuse, fit, opened, closed, coloned, operand_cells, test_cells, counted, print_cells, Inside}
+use Rattle.emitter.specs.declared.pass.Draft.{Draft}
+use Rattle.emitter.specs.Drafts.{known, semi_at, fit, opened, closed, coloned, operand_cells, test_cells, counted, print_cells, Inside}
 
 -- a token of the text s
-unfoldable pub taken : List ℕ → Lexer.Token → Draft → Draft
-taken s T.Blank d = d
-taken s T.End d = refuse d Unfinished
-taken s (T.Fault r) d = refuse d r
+unfoldable pub taken : List ℕ → Lexer.Token → Draft → Result Draft Fault
+taken s T.End d = Err Unfinished
 taken s T.Open d = opened d
 taken s T.Close d = closed d
 taken s T.Semicolon d = fit d (semi_at d.level ∷ [])
@@ -28,9 +27,7 @@ taken s (T.Print a n) d = fit d (print_cells (take n (drop a s)))
 
 -- the numbers of a token of the text s
 abbrev pub Fine : List ℕ → Lexer.Token → Type 0
-Fine s T.Blank = Unit {0}
 Fine s T.End = Unit {0}
-Fine s (T.Fault r) = Unit {0}
 Fine s T.Open = Unit {0}
 Fine s T.Close = Unit {0}
 Fine s T.Semicolon = Unit {0}
@@ -44,7 +41,7 @@ Fine s (T.Constant v) = Unit {0}
 Fine s (T.Print a n) = a + n ≤ length s
 
 -- a token of the text s that the pass can take
-pub record Takeable (s : List ℕ) (t : Lexer.Token) (p : Pass) : Type 0 where
-  pub within : Inside p
+pub record Takeable (s : List ℕ) (t : Lexer.Token) (d : Draft) : Type 0 where
+  pub within : Inside d
   pub short : length s ≤ max_text
   pub fine : Fine s t

@@ -1,66 +1,60 @@
 // The second pass, right to left: false exits and ends of expressions.
 ghost use Rattle.std.specs.Prelude.{◌≡◌};
-ghost use Rattle.assembler.specs.Exits.{ahead, settled, linked_cells, Settleable, Fillable};
+ghost use Rattle.assembler.specs.Exits.{ahead, settled, linked, Settleable, Fillable};
 
-use emitter::pass::{CLOSE, COLON, END, EXIT, LEVEL_PLACES};
+use emitter::pass::{Draft, LEVEL_PLACES, Open};
 use language::Table;
 
-// One cell, with the false exit of each level ahead of it and the cell after each level's `)` cell.
-fn settle(
-    cells: &mut [i32; Table::CELLS],
-    falses: &mut [i32; LEVEL_PLACES],
-    ends: &mut [i32; LEVEL_PLACES],
-    i: usize,
-    kind: u8,
-    level: usize,
-)
-    requires { Settleable i level }
-    ensures { ahead cells.new falses.new ends.new
-        ≡ settled (ahead cells.old falses.old ends.old) i kind level }
-{
-    let next = (i + 2) as i32;
-    match kind {
-        EXIT => {
-            cells[i] = falses[level];
+// For each level its false exit, and the cell after its `)` cell, as they are ahead of a cell.
+#[derive(Drop)]
+struct Exits {
+    falses: [i32; LEVEL_PLACES],
+    ends: [i32; LEVEL_PLACES],
+}
+
+impl Exits {
+    // The cell at place i, in which this waits.
+    #[tactic(auto, unfolding(crate::specs::Exits::settled))]
+    fn settle(&mut self, cells: &mut [i32; Table::CELLS], i: usize, waits: Open)
+        requires { Settleable i waits }
+        ensures { ahead cells.new self.new ≡ settled (ahead cells.old self.old) i waits }
+    {
+        let next = (i + 2) as i32;
+        match waits {
+            Open::Known => {}
+            Open::Exit(v) => {
+                cells[i] = self.falses[usize::from(v)];
+            }
+            Open::End(v) => {
+                let level = usize::from(v);
+                cells[i] = self.ends[level];
+                self.falses[level] = next;
+            }
+            Open::Close(v) => {
+                let level = usize::from(v);
+                cells[i] = self.falses[level];
+                self.falses[level + 1] = next;
+                self.ends[level + 1] = next;
+            }
+            Open::Colon(v) => {
+                self.falses[usize::from(v)] = next;
+            }
         }
-        END => {
-            cells[i] = ends[level];
-            falses[level] = next;
-        }
-        CLOSE => {
-            cells[i] = falses[level];
-            falses[level + 1] = next;
-            ends[level + 1] = next;
-        }
-        COLON => {
-            falses[level] = next;
-        }
-        _ => {}
     }
 }
 
 // The used cells, from the last one back.
-pub fn fill(
-    used: usize,
-    cells: &mut [i32; Table::CELLS],
-    kinds: &[u8; Table::CELLS],
-    levels: &[u8; Table::CELLS],
-)
-    requires { Fillable used levels.now }
-    ensures { cells.new ≡ linked_cells cells.old kinds.now levels.now used }
+#[tactic(auto, using(crate::proofs::ExitsFilling::filled_down, crate::proofs::ExitsFilling::filled_none), unfolding(crate::specs::Exits::linked))]
+pub fn fill(draft: &mut Draft)
+    requires { Fillable draft.old }
+    ensures { draft.new ≡ linked draft.old }
 {
-    let mut falses = [0i32; LEVEL_PLACES];
-    let mut ends = [0i32; LEVEL_PLACES];
-    let mut i = used;
-    while 0 < i {
-        i -= 1;
-        settle(
-            cells,
-            &mut falses,
-            &mut ends,
-            i,
-            kinds[i],
-            levels[i] as usize,
-        );
+    let mut exits = Exits {
+        falses: [0i32; LEVEL_PLACES],
+        ends: [0i32; LEVEL_PLACES],
+    };
+    for i in (0..draft.used).rev() {
+        let waits = draft.opens[i];
+        exits.settle(&mut draft.cells, i, waits);
     }
 }

@@ -1,23 +1,11 @@
 // The first pass, left to right: every limit, all that a cell can know, and what is open in the others.
-ghost use Rattle.std.specs.Prelude.{◌≡◌, [], ◌∷◌, ◌<◌, None, drop, take};
-ghost use Rattle.language.specs.Limits.{max_cells};
+ghost use Rattle.std.specs.Prelude.{◌≡◌, [], ◌∷◌, ◌≤◌, ◌<◌};
+ghost use Rattle.language.specs.Limits.{max_cells, max_levels};
 ghost use Rattle.language.specs.Layout.{opcode};
-ghost use Rattle.emitter.specs.Drafts.{known, semi_at, fit, opened, closed, coloned, operand_cells, test_cells, counted, print_cells};
-ghost use Rattle.emitter.specs.Drafts.{Inside, Countable, Printable, Markable, ByCells, ByKinds, ByBoth, ByAll, ByStarts, Refused, AddsKnown, AddsMarked};
+ghost use Rattle.emitter.specs.Drafts.{known, semi_at, cell, put, fit, fresh, opened, closed, coloned, operand_cells, test_cells, counted, print_cells};
+ghost use Rattle.emitter.specs.Drafts.{Inside, Countable, Printable, HasRoom, Steps};
 
 use language::{Fault, PRINT_CODE, Table};
-
-// What is kept for what is open in a cell, 0 where nothing is: a false exit.
-pub const EXIT: u8 = b'?';
-
-// The end of an expression, for a `;`.
-pub const END: u8 = b';';
-
-// A `)`.
-pub const CLOSE: u8 = b')';
-
-// A `:`, which is known.
-pub const COLON: u8 = b':';
 
 // The byte of `$`, which a counter's opcode is minus.
 const COUNTER_CODE: u8 = b'$';
@@ -25,249 +13,201 @@ const COUNTER_CODE: u8 = b'$';
 // A place for the level around the outermost expression, for each level, and for one more.
 pub const LEVEL_PLACES: usize = Table::LEVELS + 2;
 
-// The fault of a text that is refused, the nesting level, the used cells and the counters so far.
-#[derive(Clone, Copy)]
-pub struct Pass {
-    pub fault: Option<Fault>,
+// What is open in a cell, and at which level: nothing where it is known; a false exit; the end of an expression at its `;`; the false exit of the
+// expression around at a `)`, at the level around. A `:` is known, and the second pass needs its level.
+#[derive(Clone, Copy, Debug, PartialEq, Eq)]
+pub enum Open {
+    Known,
+    Exit(u8),
+    End(u8),
+    Close(u8),
+    Colon(u8),
+}
+
+// The nesting level, the used cells and the counters so far; for each cell its value and what is open in it; and for each level the first cell of its
+// expression.
+#[derive(Drop)]
+pub struct Draft {
     pub level: usize,
     pub used: usize,
     pub counters: usize,
+    pub cells: [i32; Table::CELLS],
+    pub opens: [Open; Table::CELLS],
+    pub starts: [i32; LEVEL_PLACES],
 }
 
-impl Pass {
+#[tactic(auto, using(crate::proofs::Drafts::fit_room, crate::proofs::Drafts::fit_full, crate::proofs::Drafts::open_room, crate::proofs::Drafts::open_full, crate::proofs::Drafts::close_last, crate::proofs::Drafts::close_inner, crate::proofs::Drafts::count_room, crate::proofs::Drafts::count_full, crate::proofs::Drafts::bytes_length, crate::proofs::Drafts::bytes_past), unfolding(crate::specs::Drafts::fresh, crate::specs::Drafts::coloned))]
+impl Draft {
     // Inside the outermost `(`, after cell 1.
-    pub fn fresh() -> Pass
-        ensures { result ≡ record { fault = None; level = 1; used = 1; counters = 0 } }
+    pub fn fresh() -> Draft
+        ensures { result ≡ fresh }
     {
-        Pass {
-            fault: None,
+        let mut cells = [0i32; Table::CELLS];
+        cells[0] = Table::FIRST_CELL;
+        let mut starts = [0i32; LEVEL_PLACES];
+        starts[1] = Table::CODE_START as i32;
+        Draft {
             level: 1,
             used: 1,
             counters: 0,
+            cells,
+            opens: [Open::Known; Table::CELLS],
+            starts,
         }
     }
 
-    // The first fault of a text.
-    pub fn refuse(self, why: Fault) -> Pass
-        ensures { Refused self why result }
+    // Whether there is room for so many cells more.
+    fn room(&self, more: usize) -> Result<(), Fault>
+        requires { self.now.used ≤ max_cells }
+        ensures { HasRoom self.now more result }
     {
-        let mut p = self;
-        p.fault = Some(why);
-        p
+        if Table::CELLS - self.used < more {
+            return Err(Fault::TableFull);
+        }
+        Ok(())
     }
 
-    // A cell that is known.
-    fn put(self, cells: &mut [i32; Table::CELLS], value: i32) -> Pass
-        requires { self.used < max_cells }
-        ensures { AddsKnown self cells.old value result cells.new }
+    // One more cell.
+    fn put(&mut self, value: i32, waits: Open)
+        requires { self.old.used < max_cells }
+        ensures { self.new ≡ put self.old (cell value waits) }
     {
-        let mut p = self;
-        let at = p.used;
-        p.used = at + 1;
-        cells[at] = value;
-        p
+        let at = self.used;
+        self.cells[at] = value;
+        self.opens[at] = waits;
+        self.used = at + 1;
     }
 
     // An opcode's cell: "A mark's code is minus its byte".
-    fn code(self, cells: &mut [i32; Table::CELLS], code: u16) -> Pass
-        requires { self.used < max_cells }
-        ensures { AddsKnown self cells.old (opcode code) result cells.new }
+    fn code(&mut self, code: u16)
+        requires { self.old.used < max_cells }
+        ensures { self.new ≡ put self.old (known (opcode code)) }
     {
-        let mut p = self;
-        let at = p.used;
-        p.used = at + 1;
-        cells[at] = 0 - code as i32;
-        p
+        self.put(-i32::from(code), Open::Known);
     }
 
-    // A cell that the second pass looks at.
-    fn mark(
-        self,
-        kinds: &mut [u8; Table::CELLS],
-        levels: &mut [u8; Table::CELLS],
-        kind: u8,
-        level: usize,
-    ) -> Pass
-        requires { Markable self level }
-        ensures { AddsMarked self kinds.old levels.old kind level result kinds.new levels.new }
+    // The level as a cell has it.
+    fn depth(&self) -> u8
+        requires { self.now.level ≤ max_levels }
+        ensures { result ≡ self.now.level }
     {
-        let mut p = self;
-        let at = p.used;
-        p.used = at + 1;
-        kinds[at] = kind;
-        levels[at] = level as u8;
-        p
+        self.level as u8
     }
 
     // A mark of one cell.
-    pub fn operator(self, cells: &mut [i32; Table::CELLS], b: u8) -> Pass
-        requires { Inside self }
-        ensures { ByCells (λ d. fit d (known (opcode b) ∷ [])) self cells.old result cells.new }
+    pub fn operator(&mut self, b: u8) -> Result<(), Fault>
+        requires { Inside self.old }
+        ensures { Steps (λ d. fit d (known (opcode b) ∷ [])) self.old result self.new }
     {
-        if Table::CELLS < self.used + 1 {
-            return self.refuse(Fault::TableFull);
-        }
-        self.code(cells, b as u16)
+        self.room(1)?;
+        self.code(u16::from(b));
+        Ok(())
     }
 
     // A variable's or a constant's opcode and its value.
-    pub fn operand(self, cells: &mut [i32; Table::CELLS], code: u8, value: i32) -> Pass
-        requires { Inside self }
-        ensures { ByCells (λ d. fit d (operand_cells code value)) self cells.old result cells.new }
+    pub fn operand(&mut self, code: u8, value: i32) -> Result<(), Fault>
+        requires { Inside self.old }
+        ensures { Steps (λ d. fit d (operand_cells code value)) self.old result self.new }
     {
-        if Table::CELLS < self.used + 2 {
-            return self.refuse(Fault::TableFull);
-        }
-        let p = self.code(cells, code as u16);
-        p.put(cells, value)
+        self.room(2)?;
+        self.code(u16::from(code));
+        self.put(value, Open::Known);
+        Ok(())
     }
 
     // A predicate's or a call's opcode and its false exit.
-    pub fn test(
-        self,
-        cells: &mut [i32; Table::CELLS],
-        kinds: &mut [u8; Table::CELLS],
-        levels: &mut [u8; Table::CELLS],
-        b: u8,
-    ) -> Pass
-        requires { Inside self }
-        ensures { ByBoth (λ d. fit d (test_cells b self.level)) self cells.old kinds.old levels.old
-            result cells.new kinds.new levels.new }
+    pub fn test(&mut self, b: u8) -> Result<(), Fault>
+        requires { Inside self.old }
+        ensures { Steps (λ d. fit d (test_cells b d.level)) self.old result self.new }
     {
-        if Table::CELLS < self.used + 2 {
-            return self.refuse(Fault::TableFull);
-        }
-        let p = self.code(cells, b as u16);
-        p.mark(kinds, levels, EXIT, self.level)
+        self.room(2)?;
+        self.code(u16::from(b));
+        self.put(0, Open::Exit(self.depth()));
+        Ok(())
     }
 
     // A counter's opcode, -n, its order in the text and its false exit.
-    pub fn counter(
-        self,
-        cells: &mut [i32; Table::CELLS],
-        kinds: &mut [u8; Table::CELLS],
-        levels: &mut [u8; Table::CELLS],
-        n: u32,
-    ) -> Pass
-        requires { Countable self n }
-        ensures { ByBoth (λ d. counted d n) self cells.old kinds.old levels.old
-            result cells.new kinds.new levels.new }
+    pub fn counter(&mut self, n: u32) -> Result<(), Fault>
+        requires { Countable self.old n }
+        ensures { Steps (λ d. counted d n) self.old result self.new }
     {
-        let mut p = self;
-        let order = p.counters;
-        let end = p.used + 4;
+        let order = self.counters;
         if Table::COUNTERS <= order {
-            return p.refuse(Fault::ManyCounters);
+            return Err(Fault::ManyCounters);
         }
-        p.counters = order + 1;
-        if Table::CELLS < end {
-            return p.refuse(Fault::TableFull); // "9 before 8"
-        }
-        p = p.code(cells, COUNTER_CODE as u16);
-        p = p.code(cells, n as u16);
-        p = p.put(cells, order as i32);
-        p.mark(kinds, levels, EXIT, self.level)
+        self.room(4)?; // "9 before 8"
+        self.counters = order + 1;
+        self.code(u16::from(COUNTER_CODE));
+        self.code(n as u16);
+        self.put(order as i32, Open::Known);
+        self.put(0, Open::Exit(self.depth()));
+        Ok(())
     }
 
     // A `;`.
-    pub fn semicolon(self, kinds: &mut [u8; Table::CELLS], levels: &mut [u8; Table::CELLS]) -> Pass
-        requires { Inside self }
-        ensures { ByKinds (λ d. fit d (semi_at self.level ∷ [])) self kinds.old levels.old
-            result kinds.new levels.new }
+    pub fn semicolon(&mut self) -> Result<(), Fault>
+        requires { Inside self.old }
+        ensures { Steps (λ d. fit d (semi_at d.level ∷ [])) self.old result self.new }
     {
-        if Table::CELLS < self.used + 1 {
-            return self.refuse(Fault::TableFull);
-        }
-        self.mark(kinds, levels, END, self.level)
+        self.room(1)?;
+        self.put(0, Open::End(self.depth()));
+        Ok(())
     }
 
     // A `:`, which holds the first cell of its expression.
-    pub fn colon(
-        self,
-        cells: &mut [i32; Table::CELLS],
-        kinds: &mut [u8; Table::CELLS],
-        levels: &mut [u8; Table::CELLS],
-        starts: &[i32; LEVEL_PLACES],
-    ) -> Pass
-        requires { Inside self }
-        ensures { ByAll coloned self cells.old kinds.old levels.old starts.now
-            result cells.new kinds.new levels.new }
+    pub fn colon(&mut self) -> Result<(), Fault>
+        requires { Inside self.old }
+        ensures { Steps coloned self.old result self.new }
     {
-        let at = self.used;
-        if Table::CELLS < at + 1 {
-            return self.refuse(Fault::TableFull);
-        }
-        let level = self.level;
-        cells[at] = starts[level];
-        self.mark(kinds, levels, COLON, level)
+        self.room(1)?;
+        let start = self.starts[self.level];
+        self.put(start, Open::Colon(self.depth()));
+        Ok(())
     }
 
     // A `(` inside the outermost one.
-    pub fn open(self, starts: &mut [i32; LEVEL_PLACES]) -> Pass
-        requires { Inside self }
-        ensures { ByStarts opened self starts.old result starts.new }
+    pub fn open(&mut self) -> Result<(), Fault>
+        requires { Inside self.old }
+        ensures { Steps opened self.old result self.new }
     {
-        let mut p = self;
-        let level = p.level;
-        if Table::LEVELS <= level {
-            return p.refuse(Fault::Deep);
+        if Table::LEVELS <= self.level {
+            return Err(Fault::Deep);
         }
-        let deeper = level + 1;
-        starts[deeper] = (p.used + 1) as i32;
-        p.level = deeper;
-        p
+        let deeper = self.level + 1;
+        self.starts[deeper] = (self.used + 1) as i32;
+        self.level = deeper;
+        Ok(())
     }
 
     // A `)`, which belongs to the expression around it; the last one has two cells.
-    pub fn close(
-        self,
-        cells: &mut [i32; Table::CELLS],
-        kinds: &mut [u8; Table::CELLS],
-        levels: &mut [u8; Table::CELLS],
-    ) -> Pass
-        requires { Inside self }
-        ensures { ByBoth closed self cells.old kinds.old levels.old
-            result cells.new kinds.new levels.new }
+    pub fn close(&mut self) -> Result<(), Fault>
+        requires { Inside self.old }
+        ensures { Steps closed self.old result self.new }
     {
-        let mut p = self;
-        let around = p.level - 1;
-        let at = p.used;
-        p.level = around;
-        if around == 0 {
-            if Table::CELLS < at + 2 {
-                return p.refuse(Fault::TableFull);
-            }
-            p = p.mark(kinds, levels, CLOSE, around);
-            return p.put(cells, 1);
+        if self.level == 1 {
+            self.room(2)?; // "both its cells"
+            self.level = 0;
+            self.put(0, Open::Close(0));
+            self.put(1, Open::Known);
+            return Ok(());
         }
-        if Table::CELLS < at + 1 {
-            return p.refuse(Fault::TableFull);
-        }
-        p.mark(kinds, levels, CLOSE, around)
+        self.room(1)?;
+        self.level -= 1;
+        self.put(0, Open::Close(self.depth()));
+        Ok(())
     }
 
-    // A print's opcode, length and bytes, which are the `len` bytes of the text from place `from` on.
-    pub fn print(
-        self,
-        cells: &mut [i32; Table::CELLS],
-        text: &[u8],
-        from: usize,
-        len: usize,
-    ) -> Pass
-        requires { Printable self text.now from len }
-        ensures { ByCells (λ d. fit d (print_cells (take len (drop from text.now)))) self cells.old result cells.new }
+    // A print's opcode, its length and its bytes.
+    pub fn print(&mut self, bytes: &[u8]) -> Result<(), Fault>
+        requires { Printable self.old bytes.now }
+        ensures { Steps (λ d. fit d (print_cells bytes.now)) self.old result self.new }
     {
-        if Table::CELLS < self.used + 2 + len {
-            return self.refuse(Fault::TableFull);
+        self.room(2 + bytes.len())?;
+        self.code(u16::from(PRINT_CODE));
+        self.put(bytes.len() as i32, Open::Known);
+        for b in bytes {
+            self.put(i32::from(*b), Open::Known);
         }
-        let mut p = self.code(cells, PRINT_CODE as u16);
-        p = p.put(cells, len as i32);
-        let mut i: usize = 0;
-        while i < len {
-            let place = from + i;
-            p = p.put(cells, text[place] as i32);
-            i += 1;
-        }
-        p
+        Ok(())
     }
 }

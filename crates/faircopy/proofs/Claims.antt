@@ -12,7 +12,7 @@ use Rattle.language.specs.Reading.{Reading, refused, accepted, read}
 use Rattle.language.specs.Grammar.{spell_all, marks_of, mOpen, marks}
 use Rattle.language.proofs.Grammar.{lexed-marks, reading-sound, reading-complete}
 use Rattle.language.proofs.GrammarMarks.{marks_in, spelled-marks}
-use Rattle.linker.specs.Linked.{linked}
+use Rattle.linker.specs.Linked.{linked, link_number}
 use Rattle.faircopy.specs.FairCopy.{marks_bytes, fair_copy, copy_of, copied}
 use Rattle.faircopy.specs.Claims.{SameExpression, SameTable, CopyOfCopy, NeverLonger, PaperOfText, AllCopiesFair}
 use Rattle.faircopy.proofs.ClaimsLengths.{never-longer as marks-shorter, fair}
@@ -75,7 +75,7 @@ never-longer t c h = let (w, r, e) = copy-of t c h in let n = copy-shorter t w r
 pub paper-of-text : PaperOfText
 paper-of-text t p h = go (read t) refl
   where
-    go : (r : Reading) → read t ≡ r → (copied p r).number ≡ (linked r).number
+    go : (r : Reading) → read t ≡ r → (copied p r).number ≡ link_number (linked r)
     go (refused f) e = refl
     go (accepted w) e = let n = copy-shorter t w e in rw (le-leb (length (fair_copy w)) (length p) (omega arith))
 

@@ -1,11 +1,11 @@
 -- One step of the copier, part by part.
 use mathlib.Core.Path.{◌≡◌, refl, sym, ap, ◌∙◌, subst}
 use mathlib.Core.Bool.{Bool, true, false, cond, not}
-use mathlib.Core.List.{List, [], ◌∷◌, ◌++◌}
+use mathlib.Core.List.{List, [], ◌∷◌, ◌++◌, append_assoc, append-nil}
 use Rattle.std.specs.Prelude.{Option, None, Some}
 use Prim.Native.Nat.{ℕ, suc, ◌+◌, ◌-◌, ◌≤◌, ◌<◌}
 use native.Mathlib.Omega.{arith}
-use lib.Dec.{leb, ltb, eqb}
+use lib.Dec.{ltb, eqb}
 use lib.ListN.{length, get_or, take, drop, length-append}
 use lib.Seq.{drop-drop, take-length, length-paste}
 use borrow.Author.Tests.{eq-eqb, ne_eqb, le-leb, lt-leb, ltb-true, ltb-false}
@@ -81,6 +81,76 @@ module _ (z : ℕ) where
       go true e k = absurd cc
       go false e k = none-reach l (ltb-false _ _ e)
 
+-- of the bytes l₀, those before the bytes l are copied to place `at` of the buffer o, which is o' now
+pub record Through (z : ℕ) (l₀ o : List ℕ) (at : ℕ) (l : List ℕ) (n : ℕ) (o' : List ℕ) : Type 0 where
+  pub bytes : List ℕ
+  pub whole : bytes ++ (through_step z l).bytes ≡ (through_step z l₀).bytes
+  pub rest : drop (reach z l) l ≡ drop (reach z l₀) l₀
+  pub count : n ≡ at + length bytes
+  pub buffer : wrote n o' ≡ written o at bytes
+  pub size : length o' ≡ length o
+
+reach-first : (z : ℕ) (l : List ℕ) → 1 ≤ length l → get_or l 0 0 ≡ z → reach z l ≡ 1
+reach-first z [] h e = absurd (omega arith)
+reach-first z (b ∷ l) h e = rw (eq-eqb b z e)
+
+reach-later : (z : ℕ) (l : List ℕ) → 1 ≤ length l → (get_or l 0 0 ≡ z → ⊥) → reach z l ≡ suc (reach z (tail l))
+reach-later z [] h e = absurd (omega arith)
+reach-later z (b ∷ l) h e = rw (ne_eqb b z e, tail-drop (b ∷ l))
+
+module _ (z : ℕ) (l₀ o : List ℕ) (at : ℕ) (h : Fits (through_step z l₀) o at) where
+  pub through-none : Through z l₀ o at l₀ at o
+  through-none = record { bytes = []; whole = refl; rest = refl; count = omega arith; buffer = nothing_written o at (omega arith); size = refl }
+
+  module _ (l : List ℕ) (n : ℕ) (o' : List ℕ) (q : Through z l₀ o at l n o') where
+    -- the first byte is copied
+    module _ (some : 1 ≤ length l) (r : ℕ) (o'' : List ℕ) (w : wrote r o'' ≡ written o' n (get_or l 0 0 ∷ [])) where
+      abbrev one : List ℕ
+      one = get_or l 0 0 ∷ []
+
+      -- what is copied with it
+      module _ (t : List ℕ) (e : (through_step z l).bytes ≡ get_or l 0 0 ∷ t) where
+        copied_more : (q.bytes ++ one) ++ t ≡ (through_step z l₀).bytes
+        copied_more = append_assoc q.bytes one t ∙ ap (λ (x : List ℕ). q.bytes ++ x) (sym e) ∙ q.whole
+
+        room : at + length q.bytes + 1 ≤ length o
+        room =
+            let k = ap length copied_more in
+            omega (arith, h, length-append (q.bytes ++ one) t, length-append q.bytes one)
+
+        both : wrote r o'' ≡ written o at (q.bytes ++ one)
+        both = written-two o at q.bytes one q.buffer w (omega (arith, room))
+
+      found-bytes : get_or l 0 0 ≡ z → (through_step z l).bytes ≡ get_or l 0 0 ∷ []
+      found-bytes e =
+          ap (λ (k : ℕ). take k l) (reach-first z l some e) ∙ ap (take 1) (sym (first-tail l some))
+
+      pub through-found : get_or l 0 0 ≡ z → (m : Moved) → m.rest.now ≡ tail l → m.at ≡ r → Moves (through_step z l₀) l₀ at o o'' m
+      through-found e m f g =
+          record {
+            rest = f ∙ tail-drop l ∙ ap (λ (k : ℕ). drop k l) (sym (reach-first z l some e)) ∙ q.rest;
+            buffer = ap (λ (x : ℕ). wrote x o'') g ∙ both [] (found-bytes e)
+                ∙ ap (written o at) (sym (append-nil (q.bytes ++ one)) ∙ copied_more [] (found-bytes e));
+          }
+
+      more_bytes : (get_or l 0 0 ≡ z → ⊥) → (through_step z l).bytes ≡ get_or l 0 0 ∷ (through_step z (tail l)).bytes
+      more_bytes e =
+          ap (λ (k : ℕ). take k l) (reach-later z l some e) ∙ ap (take (suc (reach z (tail l)))) (sym (first-tail l some))
+
+      pub through-more : (get_or l 0 0 ≡ z → ⊥) → length o'' ≡ length o' → Through z l₀ o at (tail l) r o''
+      through-more e k =
+          let t = (through_step z (tail l)).bytes in
+          record {
+            bytes = q.bytes ++ one;
+            whole = copied_more t (more_bytes e);
+            rest = ap (drop (suc (reach z (tail l)))) (first-tail l some) ∙ ap (λ (x : ℕ). drop x l) (sym (reach-later z l some e)) ∙ q.rest;
+            count =
+                ap (λ (x : Written). x.next)
+                (both t (more_bytes e) ∙ sym (written-room o at (q.bytes ++ one) (omega (arith, room t (more_bytes e), length-append q.bytes one))));
+            buffer = both t (more_bytes e);
+            size = k ∙ q.size;
+          }
+
 -- ── leading zeros ───────────────────────────────────────────────────────────────────────────────
 
 pub zeros-last : (l : List ℕ) → length l < 2 → zeros l ≡ 0
@@ -91,23 +161,6 @@ zeros-last (b ∷ []) h = go (eqb b (digit_byte 0))
     go true = refl
     go false = refl
 zeros-last (b ∷ d ∷ l) h = absurd (omega arith)
-
-pub zeros-other : (l : List ℕ) → (get_or l 0 0 ≡ digit_byte 0 → ⊥) → zeros l ≡ 0
-zeros-other [] n = refl
-zeros-other (b ∷ l) n = rw (ne_eqb b (digit_byte 0) n)
-
-pub zeros-lone : (l : List ℕ) → 2 ≤ length l → get_or l 0 0 ≡ digit_byte 0 → get_or l 1 0 < digit_byte 0 → zeros l ≡ 0
-zeros-lone [] h z n = absurd (omega arith)
-zeros-lone (b ∷ []) h z n = absurd (omega arith)
-zeros-lone (b ∷ d ∷ l) h z n = rw (eq-eqb b (digit_byte 0) z, lt-leb (digit_byte 0) d n)
-
-pub zeros-more : (l : List ℕ) → 2 ≤ length l → get_or l 0 0 ≡ digit_byte 0 → digit_byte 0 ≤ get_or l 1 0
-    → drop (zeros (drop 1 l)) (drop 1 l) ≡ drop (zeros l) l
-zeros-more [] h z n = absurd (omega arith)
-zeros-more (b ∷ []) h z n = absurd (omega arith)
-zeros-more (b ∷ d ∷ l) h z n =
-    let e : zeros (b ∷ d ∷ l) ≡ suc (zeros (d ∷ l)) = rw (eq-eqb b (digit_byte 0) z, le-leb (digit_byte 0) d n) in
-    sym (ap (λ (k : ℕ). drop k (b ∷ d ∷ l)) e)
 
 -- ── the sign ────────────────────────────────────────────────────────────────────────────────────
 
@@ -148,6 +201,36 @@ module _ (o : List ℕ) (at : ℕ) (b : List ℕ) {o₁ : List ℕ} {n : ℕ} (w
 pub moves-digits : (z : ℕ) (l : List ℕ) {d : List ℕ} {n : ℕ} {o₁ o₂ : List ℕ} {m : Moved} → d ≡ drop (zeros l) l → Moves (through_step z d) d n o₁ o₂ m
     → Moves (through_step z (drop (zeros l) l)) (drop (zeros l) l) n o₁ o₂ m
 moves-digits z l {d} {n} {o₁} {o₂} {m} e h = subst (λ (x : List ℕ). Moves (through_step z x) x n o₁ o₂ m) e h
+
+pub fits-digits : (z : ℕ) (l d : List ℕ) (o : List ℕ) (n : ℕ) → d ≡ drop (zeros l) l → Fits (through_step z (drop (zeros l) l)) o n → Fits (through_step z d) o n
+fits-digits z l d o n e h = subst (λ (x : List ℕ). Fits (through_step z x) o n) (sym e) h
+
+-- a constant's sign, of the bytes l
+abbrev pub sign : Bool → List ℕ → List ℕ
+sign u l = sign_bytes u (drop (zeros l) l)
+
+-- and its digits
+abbrev pub digits_only : List ℕ → Step
+digits_only l = through_step tick_byte (drop (zeros l) l)
+
+-- after its `'/`
+module _ (u : Bool) (l : List ℕ) (o : List ℕ) (at : ℕ) {o₁ : List ℕ} {n₁ : ℕ} (w₁ : wrote n₁ o₁ ≡ written o at (tick_byte ∷ slash_byte ∷ []))
+    (f : Fits (digits_step u l) o at) where
+  pub after-slash : Fits (prefixed (sign u l) (digits_only l)) o₁ n₁
+  after-slash = fits-prefixed o at (tick_byte ∷ slash_byte ∷ []) w₁ (prefixed (sign u l) (digits_only l)) f
+
+  module _ {d o₂ : List ℕ} {n₂ : ℕ} (e : d ≡ drop (zeros l) l) (w₂ : wrote n₂ o₂ ≡ written o₁ n₁ (sign_bytes u d)) where
+    sign-written : wrote n₂ o₂ ≡ written o₁ n₁ (sign u l)
+    sign-written = w₂ ∙ ap (λ (x : List ℕ). written o₁ n₁ (sign_bytes u x)) e
+
+    pub after-sign : Fits (digits_only l) o₂ n₂
+    after-sign = fits-prefixed o₁ n₁ (sign u l) sign-written (digits_only l) after-slash
+
+    pub digits-moved : {o₃ : List ℕ} {m : Moved} → Moves (through_step tick_byte d) d n₂ o₂ o₃ m → Moves (digits_step u l) l at o o₃ m
+    digits-moved h =
+        moves-after (zeros l) l
+        (moves-prefixed o at (tick_byte ∷ slash_byte ∷ []) w₁ (prefixed (sign u l) (digits_only l)) f
+        (moves-prefixed o₁ n₁ (sign u l) sign-written (digits_only l) after-slash (moves-digits tick_byte l e h)))
 
 -- ── constants and prints ────────────────────────────────────────────────────────────────────────
 

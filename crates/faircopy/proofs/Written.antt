@@ -1,22 +1,12 @@
--- A byte written, and none.
-use mathlib.Core.Path.{◌≡◌, refl, ap, ◌∙◌}
-use mathlib.Core.List.{List, [], ◌∷◌}
-use Prim.Native.Nat.{ℕ, ◌+◌, ◌≤◌, ◌<◌}
+-- No byte written.
+use mathlib.Core.Path.{◌≡◌, ap, ◌∙◌}
+use mathlib.Core.List.{List, []}
+use Prim.Native.Nat.{ℕ, ◌+◌, ◌≤◌}
 use native.Mathlib.Omega.{arith}
-use lib.ListN.{length, set}
-use borrow.Author.Tests.{lt-leb}
-use Rattle.language.proofs.Copies.{pasting-none, pasting-more}
+use lib.ListN.{length}
+use Rattle.language.proofs.Copies.{pasting-none}
 use Rattle.numerals.specs.Numerals.{wrote, written}
-use Rattle.numerals.proofs.Numerals.{written-no-room, pasted}
-
-pub byte-no-room : (o : List ℕ) (at b : ℕ) → length o ≤ at → wrote at o ≡ written o at (b ∷ [])
-byte-no-room o at b h = written-no-room o at (b ∷ []) (lt-leb (at + 1) (length o) (omega arith))
-
-pub byte-written : (o : List ℕ) (at b : ℕ) → at < length o → wrote (at + 1) (set o at b) ≡ written o at (b ∷ [])
-byte-written o at b h =
-    pasted o at (b ∷ []) (set o at b) 1
-    (pasting-more o at (b ∷ []) 1 0 o 0 at b (pasting-none o at (b ∷ []) 1 (omega arith) (omega arith)) (omega arith) (omega arith) refl)
-    (omega arith)
+use Rattle.numerals.proofs.Numerals.{pasted}
 
 -- no bytes
 pub nothing_written : (o : List ℕ) (at : ℕ) → at + 0 ≤ length o → wrote at o ≡ written o at []

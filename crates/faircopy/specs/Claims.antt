@@ -5,7 +5,7 @@ use Rattle.language.specs.Syntax.{Expr}
 use Rattle.language.specs.Grammar.{Lexeme, blank, newline, comma, semicolon, colon-sign, point, left, right, comment, print-of, operator-of, variable-of, condition-of, call-of, counter-of, constant_of}
 use Rattle.language.specs.Grammar.{spell_all, AllFormed, value_from}
 use Rattle.language.specs.Reading.{accepted, read}
-use Rattle.linker.specs.Linked.{linked}
+use Rattle.linker.specs.Linked.{linked, link_number}
 use Rattle.faircopy.specs.FairCopy.{fair_copy, copy_of, copied}
 
 -- "the same marks in the same order": the copy is accepted as the same expression. proofs/Claims `same-expression`
@@ -26,7 +26,7 @@ NeverLonger = (t c : List ℕ) → copy_of (read t) ≡ some c → length c ≤ 
 
 -- So a paper as long as the text is never too short: the number is the linker's. proofs/Claims `paper-of-text`
 abbrev pub PaperOfText : Type 0
-PaperOfText = (t p : List ℕ) → length t ≤ length p → (copied p (read t)).number ≡ (linked (read t)).number
+PaperOfText = (t p : List ℕ) → length t ≤ length p → (copied p (read t)).number ≡ link_number (linked (read t))
 
 -- ── what is not in a copy ───────────────────────────────────────────────────────────────────────
 

@@ -1,5 +1,5 @@
 -- Document 02, U1: the fair copy of a text, and what a call leaves on the lent paper.
-use Rattle.std.specs.Prelude.{ℕ, suc, ◌%◌, List, [], ◌∷◌, ◌++◌, ℤ, pos}
+use Rattle.std.specs.Prelude.{Result, Ok, Err, ℕ, suc, ◌%◌, List, [], ◌∷◌, ◌++◌, ℤ, pos}
 use Rattle.language.specs.Limits.{max_variables}
 use Rattle.std.proofs.Math.Option.{Option, none, some}
 use Rattle.language.specs.Answers.{fault_number}
@@ -10,8 +10,8 @@ use Rattle.language.specs.Syntax.{operator_byte, access_byte, condition_byte, Op
 use Rattle.language.specs.Grammar.{Mark, mOpen, mClose, mSemi, mColon, mOperation, mPredicate, mCall, marks}
 use Rattle.language.specs.Reading.{Reading, refused, accepted}
 use Rattle.numerals.specs.Numerals.{Delivery, delivers, delivered}
-use Rattle.faircopy.specs.declared.Copied.{Copied}
-use Rattle.faircopy.specs.declared.Copied.TheVariants.{Whole, Refused, ShortPaper}
+use Rattle.faircopy.specs.declared.CopyError.{CopyError}
+use Rattle.faircopy.specs.declared.CopyError.TheVariants.{BadText, ShortPaper}
 
 -- ── the copy ────────────────────────────────────────────────────────────────────────────────────
 
@@ -73,17 +73,20 @@ copy_of (accepted w) = some (fair_copy w)
 abbrev pub short_paper : ℕ
 short_paper = 30
 
--- the number of what comes of a copy
-abbrev pub copy_number : Copied → ℕ
-copy_number (Whole n) = 0
-copy_number (Refused n) = n
-copy_number ShortPaper = short_paper
+-- the number of a text or a paper without a copy
+abbrev pub error_number : CopyError → ℕ
+error_number (BadText f) = fault_number f
+error_number ShortPaper = short_paper
+
+-- the number of what comes of a copy, 0 where there is one
+abbrev pub copy_number : Result ℕ CopyError → ℕ
+copy_number (Ok n) = 0
+copy_number (Err e) = error_number e
 
 -- "The call returns the copy's length"
-abbrev pub length_of : Copied → ℕ
-length_of (Whole n) = n
-length_of (Refused n) = 0
-length_of ShortPaper = 0
+abbrev pub length_of : Result ℕ CopyError → ℕ
+length_of (Ok n) = n
+length_of (Err e) = 0
 
 -- What a call leaves: its number, the copy's length, and the paper p. "Linker refusals apply first." "bytes past it, and the whole buffer on refusal, keep
 -- their content"

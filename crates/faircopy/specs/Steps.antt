@@ -1,5 +1,5 @@
 -- What the code's functions make of an accepted text, byte by byte: a step takes a blank, a newline, a comment or a mark, and writes its fair copy.
-use Rattle.std.specs.Prelude.{◌≡◌, ℕ, zero, suc, ◌+◌, ◌≤◌, ◌<◌, Bool, true, false, cond, List, [], ◌∷◌, ◌++◌, leb, eqb, length, get_or, take, drop}
+use Rattle.std.specs.Prelude.{◌≡◌, ℕ, zero, suc, ◌+◌, ◌≤◌, Bool, true, false, cond, List, [], ◌∷◌, ◌++◌, leb, eqb, length, take, drop}
 use Rattle.language.specs.Bytes.{blank_byte, quote_byte, dollar_byte, tick_byte, comma_byte, minus_byte, point_byte, slash_byte, digit_byte, colon_byte, semicolon_byte}
 use Rattle.language.specs.Syntax.{Expr}
 use Rattle.language.specs.Reading.{accepted, read}

@@ -8,24 +8,20 @@ use native.Mathlib.Numerals.{add-one}
 use native.Mathlib.Omega.{arith}
 use lib.ListN.{length, get_or, take, drop, drop_of_length-le, length-drop}
 use lib.Seq.{drop-cons, take-suc, get_or-drop}
-use borrow.Author.Tests.{eq-eqb, ne_eqb, le-leb, lt-leb, lt-ltb, le-ltb}
+use borrow.Author.Tests.{eq-eqb, ne_eqb, lt-ltb, le-ltb}
 use Rattle.language.specs.Bytes.{newline_byte, quote_byte, tick_byte, minus_byte, slash_byte, digit_byte, is_digit}
 use Rattle.language.specs.declared.Fault.{Fault}
 use Rattle.language.specs.declared.Fault.TheVariants.{StrayMark, BadCounter}
 use Rattle.language.specs.Syntax.{Access, variable, print}
-use Rattle.language.specs.Tokens.{Token, begins, ends, does, counts, faults, Class, class, digit_cell}
+use Rattle.language.specs.Tokens.{Token, does, counts, faults, Class, class, digit_cell}
 use Rattle.language.specs.Tokens.{Form, counter_form, most_digits, closing_byte, form_fault, constant_form, Mode, idle, comment, after-tick, after-slash, after-access, number, printing}
-use Rattle.lexer.specs.Lexing.{fault_of, NumberIs, SkipsTo, Skips, Means, Lexes, Takes}
-use Rattle.lexer.specs.declared.Number.{Number}
-use Rattle.lexer.specs.declared.Number.TheVariants as N
-use Rattle.lexer.specs.declared.Token as Lexer
-use Rattle.lexer.specs.declared.Token.TheVariants as T
+use Rattle.lexer.specs.Lexing.{SkipsTo, Means, Lexes, Takes}
 use Rattle.lexer.specs.declared.Lexed.{Lexed}
-use Rattle.lexer.specs.declared.Skipped.{Skipped}
-use Rattle.lexer.specs.declared.Skipped.TheVariants as S
+use Rattle.std.specs.Prelude.{Result, Ok, Err}
 use Rattle.language.specs.Tokens.{unless, first, numeral, numbered, scan_number, slashed, ticked, accessed, printed, commented, scan, finish, tokens}
 use Rattle.language.proofs.Tests.{by-ltb}
-use Rattle.language.proofs.Between.{between-true, between-low, between-high}
+use Rattle.language.specs.Between.{between}
+use Rattle.language.proofs.Between.{between-true, between-low, between-bounds}
 
 module _ (s : List ℕ) (i : ℕ) where
   pub tokens-at : (m : Mode) → i < length s → tokens (drop i s) m ≡ scan m (get_or s i 0) (λ m'. tokens (drop (i + 1) s) m')
@@ -44,20 +40,16 @@ module _ (s : List ℕ) (i : ℕ) (h : i < length s) where
   unfolding scan commented
   comment-end e = tokens-at s i comment h ∙ simp (eq-eqb (get_or s i 0) quote_byte e)
 
-  pub comment-on : (get_or s i 0 ≡ quote_byte → ⊥) → (get_or s i 0 ≡ newline_byte) ⊎ (32 ≤ get_or s i 0) → get_or s i 0 ≤ 126 → tokens (drop i s) comment ≡ tokens (drop (i + 1) s) comment
+  pub comment-on : (get_or s i 0 ≡ quote_byte → ⊥) → (get_or s i 0 ≡ newline_byte) ⊎ (between 32 126 (get_or s i 0) ≡ true) → tokens (drop i s) comment ≡ tokens (drop (i + 1) s) comment
   unfolding scan commented
-  comment-on n (inl e) u = tokens-at s i comment h ∙ simp (ne_eqb (get_or s i 0) quote_byte n, eq-eqb (get_or s i 0) newline_byte e)
-  comment-on n (inr l) u =
-      tokens-at s i comment h ∙ simp (ne_eqb (get_or s i 0) quote_byte n, ne_eqb (get_or s i 0) newline_byte (λ e. omega arith), le-leb 32 (get_or s i 0) l, le-leb (get_or s i 0) 126 u)
+  comment-on n (inl e) = tokens-at s i comment h ∙ simp (ne_eqb (get_or s i 0) quote_byte n, eq-eqb (get_or s i 0) newline_byte e)
+  comment-on n (inr t) =
+      let k = between-bounds 32 126 (get_or s i 0) t in
+      tokens-at s i comment h ∙ simp (ne_eqb (get_or s i 0) quote_byte n, ne_eqb (get_or s i 0) newline_byte (λ e. omega arith), t)
 
-  pub comment-low : get_or s i 0 < 32 → (get_or s i 0 ≡ newline_byte → ⊥) → tokens (drop i s) comment ≡ faults StrayMark ∷ []
+  pub comment-stray : (get_or s i 0 ≡ quote_byte → ⊥) → (get_or s i 0 ≡ newline_byte → ⊥) → between 32 126 (get_or s i 0) ≡ false → tokens (drop i s) comment ≡ faults StrayMark ∷ []
   unfolding scan commented
-  comment-low l n = tokens-at s i comment h ∙ simp (ne_eqb (get_or s i 0) quote_byte (λ e. omega arith), ne_eqb (get_or s i 0) newline_byte n, lt-leb 32 (get_or s i 0) l)
-
-  pub comment-high : 126 < get_or s i 0 → tokens (drop i s) comment ≡ faults StrayMark ∷ []
-  unfolding scan commented
-  comment-high l =
-      tokens-at s i comment h ∙ simp (ne_eqb (get_or s i 0) quote_byte (λ e. omega arith), ne_eqb (get_or s i 0) newline_byte (λ e. omega arith), between-high 32 126 (get_or s i 0) l)
+  comment-stray n m t = tokens-at s i comment h ∙ simp (ne_eqb (get_or s i 0) quote_byte n, ne_eqb (get_or s i 0) newline_byte m, t)
 
   -- ── prints, after the bytes a, last first ─────────────────────────────────────────────────────
 
@@ -65,18 +57,13 @@ module _ (s : List ℕ) (i : ℕ) (h : i < length s) where
   unfolding scan printed
   print-end a e = tokens-at s i (printing a) h ∙ simp (eq-eqb (get_or s i 0) tick_byte e)
 
-  pub print-on : (a : List ℕ) → (get_or s i 0 ≡ tick_byte → ⊥) → 32 ≤ get_or s i 0 → get_or s i 0 ≤ 126
-      → tokens (drop i s) (printing a) ≡ tokens (drop (i + 1) s) (printing (get_or s i 0 ∷ a))
+  pub print-on : (a : List ℕ) → (get_or s i 0 ≡ tick_byte → ⊥) → between 32 126 (get_or s i 0) ≡ true → tokens (drop i s) (printing a) ≡ tokens (drop (i + 1) s) (printing (get_or s i 0 ∷ a))
   unfolding scan printed
-  print-on a n l u = tokens-at s i (printing a) h ∙ simp (ne_eqb (get_or s i 0) tick_byte n, le-leb 32 (get_or s i 0) l, le-leb (get_or s i 0) 126 u)
+  print-on a n t = tokens-at s i (printing a) h ∙ simp (ne_eqb (get_or s i 0) tick_byte n, t)
 
-  pub print-low : (a : List ℕ) → get_or s i 0 < 32 → tokens (drop i s) (printing a) ≡ faults StrayMark ∷ []
+  pub print-stray : (a : List ℕ) → (get_or s i 0 ≡ tick_byte → ⊥) → between 32 126 (get_or s i 0) ≡ false → tokens (drop i s) (printing a) ≡ faults StrayMark ∷ []
   unfolding scan printed
-  print-low a l = tokens-at s i (printing a) h ∙ simp (ne_eqb (get_or s i 0) tick_byte (λ e. omega arith), lt-leb 32 (get_or s i 0) l)
-
-  pub print-high : (a : List ℕ) → 126 < get_or s i 0 → tokens (drop i s) (printing a) ≡ faults StrayMark ∷ []
-  unfolding scan printed
-  print-high a l = tokens-at s i (printing a) h ∙ simp (ne_eqb (get_or s i 0) tick_byte (λ e. omega arith), between-high 32 126 (get_or s i 0) l)
+  print-stray a n t = tokens-at s i (printing a) h ∙ simp (ne_eqb (get_or s i 0) tick_byte n, t)
 
   -- ── numbers, after n digits of the value v ────────────────────────────────────────────────────
 
@@ -88,30 +75,22 @@ module _ (s : List ℕ) (i : ℕ) (h : i < length s) where
         tokens-at s i (number f n v) h
         ∙ simp (between-low (digit_byte 0) (digit_byte 9) (get_or s i 0) (omega arith), eq-eqb (get_or s i 0) (closing_byte f) q, lt-ltb 0 n (omega arith))
 
-    pub number-none : closing_byte f < digit_byte 0 → get_or s i 0 ≡ closing_byte f → n ≡ 0 → tokens (drop i s) (number f n v) ≡ faults (form_fault f) ∷ []
+    -- a byte that neither is a digit nor closes a number
+    pub number-stray : closing_byte f < digit_byte 0 → (get_or s i 0 ≡ closing_byte f × n ≡ 0) ⊎ (get_or s i 0 ≡ closing_byte f → ⊥) → is_digit (get_or s i 0) ≡ false
+        → tokens (drop i s) (number f n v) ≡ faults (form_fault f) ∷ []
     unfolding scan scan_number numbered unless
-    number-none k q z =
-        tokens-at s i (number f n v) h
-        ∙ simp (between-low (digit_byte 0) (digit_byte 9) (get_or s i 0) (omega arith), eq-eqb (get_or s i 0) (closing_byte f) q, le-ltb 0 n (omega arith))
+    number-stray k (inl q) t = tokens-at s i (number f n v) h ∙ simp (t, eq-eqb (get_or s i 0) (closing_byte f) q.0, le-ltb 0 n (omega (arith, q.1)))
+    number-stray k (inr q) t = tokens-at s i (number f n v) h ∙ simp (t, ne_eqb (get_or s i 0) (closing_byte f) q)
 
-    pub number-low : get_or s i 0 < digit_byte 0 → (get_or s i 0 ≡ closing_byte f → ⊥) → tokens (drop i s) (number f n v) ≡ faults (form_fault f) ∷ []
-    unfolding scan scan_number numbered
-    number-low l q = tokens-at s i (number f n v) h ∙ simp (lt-leb (digit_byte 0) (get_or s i 0) l, ne_eqb (get_or s i 0) (closing_byte f) q)
-
-    pub number-high : closing_byte f < digit_byte 0 → digit_byte 9 < get_or s i 0 → tokens (drop i s) (number f n v) ≡ faults (form_fault f) ∷ []
-    unfolding scan scan_number numbered
-    number-high k l =
-        tokens-at s i (number f n v) h ∙ simp (between-high (digit_byte 0) (digit_byte 9) (get_or s i 0) l, ne_eqb (get_or s i 0) (closing_byte f) (λ q. omega arith))
-
-    pub number-many : digit_byte 0 ≤ get_or s i 0 → get_or s i 0 ≤ digit_byte 9 → n ≡ most_digits f → tokens (drop i s) (number f n v) ≡ faults (form_fault f) ∷ []
+    pub number-many : is_digit (get_or s i 0) ≡ true → n ≡ most_digits f → tokens (drop i s) (number f n v) ≡ faults (form_fault f) ∷ []
     unfolding scan scan_number numbered unless
-    number-many l u q = tokens-at s i (number f n v) h ∙ simp (between-true (digit_byte 0) (digit_byte 9) (get_or s i 0) l u, le-ltb n (most_digits f) (omega arith))
+    number-many t q = tokens-at s i (number f n v) h ∙ simp (t, le-ltb n (most_digits f) (omega arith))
 
-    pub number-on : digit_byte 0 ≤ get_or s i 0 → get_or s i 0 ≤ digit_byte 9 → n < most_digits f
+    pub number-on : is_digit (get_or s i 0) ≡ true → n < most_digits f
         → tokens (drop i s) (number f n v) ≡ tokens (drop (i + 1) s) (number f (n + 1) (10 * v + (get_or s i 0 - digit_byte 0)))
     unfolding scan scan_number numbered unless
-    number-on l u q =
-        tokens-at s i (number f n v) h ∙ simp (between-true (digit_byte 0) (digit_byte 9) (get_or s i 0) l u, lt-ltb n (most_digits f) q)
+    number-on t q =
+        tokens-at s i (number f n v) h ∙ simp (t, lt-ltb n (most_digits f) q)
         (ap (λ k. tokens (drop (i + 1) s) (number f k (10 * v + (get_or s i 0 - digit_byte 0)))) (sym (add-one n)))
 
   -- ── variables ─────────────────────────────────────────────────────────────────────────────────
@@ -185,63 +164,25 @@ printed-more s from i h k =
 -- ── readings ────────────────────────────────────────────────────────────────────────────────────
 
 -- a reading from further on, where the tokens are those from here
-pub lexes-from : (t t' : List Token) (s : List ℕ) (a b : ℕ) (r : Lexed) → t ≡ t' → a ≤ b → Lexes t' s b r → Lexes t s a r
-lexes-from t t' s a b r e h q =
-    record { means = subst (λ t. Means s r.token t (tokens (drop r.next s) idle)) (sym e) q.means; after = omega (arith, q.after); inside = q.inside }
-
--- what `answer` gives, and what `fault` gives after the first byte of a mark
-pub answered : {t : List Token} {s : List ℕ} {from : ℕ} (k : Lexer.Token) (n : ℕ) {r : Lexed} → r ≡ record { token = k; next = n } → Means s k t (tokens (drop n s) idle)
-    → from ≤ n → n ≤ length s → Lexes t s from r
-answered {t} {s} {from} k n e m a i = subst (λ r. Lexes t s from r) (sym e) (record { means = m; after = a; inside = i })
-
-pub faulted : {t : List Token} {s : List ℕ} {from : ℕ} (w : Fault) (n : ℕ) {r : Lexed} → r ≡ record { token = T.Fault w; next = n } → t ≡ begins ∷ faults w ∷ []
-    → from ≤ n → n ≤ length s → Lexes t s from r
-faulted w n e m a i = answered (T.Fault w) n e (inr m) a i
+pub lexes-from : (t t' : List Token) (s : List ℕ) (a b : ℕ) (r : Result Lexed Fault) → t ≡ t' → a ≤ b → Lexes t' s b r → Lexes t s a r
+lexes-from t t' s a b (Ok l) e h q =
+    record { means = subst (λ t. Means s l.token t (tokens (drop l.next s) idle)) (sym e) q.means; after = omega (arith, q.after); inside = q.inside }
+lexes-from t t' s a b (Err r) e h q = e ∙ q
 
 -- the same for a token whose first byte is before b
-pub takes-from : (t t' : List Token) (s : List ℕ) (a b : ℕ) (r : Lexed) → t ≡ t' → a < b → Lexes t' s b r → Takes t s a r
-takes-from t t' s a b r e h q =
+pub takes-from : (t t' : List Token) (s : List ℕ) (a b : ℕ) (r : Result Lexed Fault) → t ≡ t' → a < b → Lexes t' s b r → Takes t s a r
+takes-from t t' s a b (Ok l) e h q =
     record {
-      means = subst (λ t. Means s r.token t (tokens (drop r.next s) idle)) (sym e) q.means;
+      means = subst (λ t. Means s l.token t (tokens (drop l.next s) idle)) (sym e) q.means;
       further = λ _. omega (arith, q.after);
       inside = λ _. q.inside;
     }
-
--- a token after blanks, where the tokens are those from here
-pub takes-after : (t t' : List Token) (s : List ℕ) (a b : ℕ) (r : Lexed) → t ≡ t' → a ≤ b → Takes t' s b r → Takes t s a r
-takes-after t t' s a b r e h q =
-    record {
-      means = subst (λ t. Means s r.token t (tokens (drop r.next s) idle)) (sym e) q.means;
-      further = λ n. let k = q.further n in omega arith;
-      inside = q.inside;
-    }
-
--- a blank is not the end
-pub blank-not-end : (t : Lexer.Token) → t ≡ T.Blank → t ≡ T.End → ⊥
-blank-not-end t b e = let k : T.Blank ≡ T.End = sym b ∙ e in let z : ◌≡◌ {A = ℕ} 0 1 = cc in omega arith
-
--- what `answer` gives, and what `fault` gives, where a token begins at a place
-pub takes-as : {t : List Token} {s : List ℕ} {from : ℕ} (k : Lexer.Token) (n : ℕ) {r : Lexed} → r ≡ record { token = k; next = n } → Means s k t (tokens (drop n s) idle)
-    → from < n → n ≤ length s → Takes t s from r
-takes-as {t} {s} {from} k n e m a i = subst (λ r. Takes t s from r) (sym e) (record { means = m; further = λ _. a; inside = λ _. i })
-
-pub takes-end : {t : List Token} {s : List ℕ} {from : ℕ} (n : ℕ) {r : Lexed} → r ≡ record { token = T.End; next = n } → t ≡ ends ∷ [] → Takes t s from r
-takes-end {t} {s} {from} n e m = subst (λ r. Takes t s from r) (sym e) (record { means = m; further = λ k. absurd (k refl); inside = λ k. absurd (k refl) })
+takes-from t t' s a b (Err r) e h q = inr (e ∙ q)
 
 -- the tokens from a byte of a class on
 pub tokens-first : (s : List ℕ) (i : ℕ) → i < length s → (c : Class) → class (get_or s i 0) ≡ c → tokens (drop i s) idle ≡ first c (λ m. tokens (drop (i + 1) s) m)
 unfolding scan
 tokens-first s i h c e = tokens-at s i idle h ∙ ap (λ c. first c (λ m. tokens (drop (i + 1) s) m)) e
-
--- two steps to a place inside the text
-pub inside_both : (s : List ℕ) (a b n : ℕ) → a ≤ b → (a < b → b ≤ length s) → b ≤ n → (b < n → n ≤ length s) → a < n → n ≤ length s
-inside_both s a b n h i k j l = by-ltb b n (λ _. n ≤ length s) j (λ e. let q : b ≤ length s = i (omega arith) in omega arith)
-
--- what is skipped from further on, where the tokens are those from here
-pub skips-from : (t t' : List Token) (s : List ℕ) (a b : ℕ) (r : Skipped) → t ≡ t' → a ≤ b → (a < b → b ≤ length s) → Skips t' s b r → Skips t s a r
-skips-from t t' s a b (S.To n) e h i q =
-    record { tokens-are = e ∙ q.tokens-are; after = omega (arith, q.after); inside = λ k. inside_both s a b n h i q.after q.inside k }
-skips-from t t' s a b (S.Refused r) e h i q = e ∙ q
 
 pub skips-inside : {t : List Token} {s : List ℕ} {from n : ℕ} → from ≤ length s → SkipsTo t s from n → n ≤ length s
 skips-inside {s = s} {from = from} {n = n} h q = by-ltb from n (λ _. n ≤ length s) q.inside (λ e. omega arith)
@@ -254,13 +195,7 @@ pub record Skipping (s : List ℕ) (from at : ℕ) : Type 0 where
   pub inside : from < at → at ≤ length s
   pub same : tokens (drop at s) idle ≡ tokens (drop from s) idle
 
-pub skipping-none : (s : List ℕ) (from : ℕ) → Skipping s from from
-skipping-none s from = record { after = omega arith; inside = λ k. absurd (omega arith); same = refl }
-
--- ── a number that is refused ────────────────────────────────────────────────────────────────────
-
-pub number-refused : {s : List ℕ} {from : ℕ} (f : Form) (n : Number) (w k : Fault) {r : Lexed} → NumberIs s f from n → n ≡ N.Refused w → k ≡ fault_of n
-    → r ≡ record { token = T.Fault k; next = from } → from ≤ length s → Lexes (begins ∷ tokens (drop from s) (number f 0 0)) s from r
-number-refused {s} {from} f n w k q e g h i =
-    let t = subst (NumberIs s f from) e q in
-    faulted k from h (ap (λ t. begins ∷ t) (t ∙ ap (λ r. faults r ∷ []) (sym (g ∙ ap fault_of e)))) (omega arith) i
+-- a comment whose first byte is at place i, up to place n
+pub skipping-comment : (s : List ℕ) (from i n : ℕ) → from ≤ i → i < length s → tokens (drop from s) idle ≡ tokens (drop (i + 1) s) comment
+    → SkipsTo (tokens (drop (i + 1) s) comment) s (i + 1) n → Skipping s from n
+skipping-comment s from i n h k e f = record { after = omega (arith, f.after); inside = λ _. skips-inside (omega arith) f; same = sym (e ∙ f.tokens-are) }

@@ -1,5 +1,5 @@
 -- The kind of a byte says the class that the definitions give it.
-use mathlib.Core.Path.{◌≡◌, refl, sym, ◌∙◌, subst}
+use mathlib.Core.Path.{◌≡◌, refl, subst}
 use mathlib.Core.Bool.{Bool, true, false, cond}
 use mathlib.Core.Logic.{◌⊎◌, inl, inr}
 use Prim.Native.Nat.{ℕ, ◌<◌}
@@ -112,10 +112,6 @@ sorted b h = go (between (digit_byte 1) (digit_byte 9) b) (class b) refl refl
     go false dollar e f = f
     go false tick e f = f
     go false stray e f = f
-
--- what `kind_of` found
-pub sorted-as : (b : ℕ) (r k : Kind) → b < 256 → r ≡ kind_of b → r ≡ k → Sorted k b
-sorted-as b r k h e f = subst (λ k. Sorted k b) (sym e ∙ f) (sorted b h)
 
 -- ── what stands around the outermost expression ─────────────────────────────────────────────────
 

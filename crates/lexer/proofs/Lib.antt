@@ -1,2 +1,3 @@
+pub mod LexingMarks
 pub mod LexingSorts
 pub mod Lexing

@@ -1,7 +1,6 @@
 -- What the lexer's functions answer, in terms of the tokens that the definitions give the bytes of a text.
-use Rattle.std.specs.Prelude.{◌≡◌, false, cond, List, [], ◌∷◌, ◌⊎◌, ℕ, suc, ◌+◌, ◌^◌, ◌≤◌, ◌<◌, length, get_or, take, drop, eqb}
+use Rattle.std.specs.Prelude.{◌≡◌, false, cond, List, [], ◌∷◌, ◌⊎◌, ℕ, suc, ◌+◌, ◌^◌, ◌≤◌, ◌<◌, length, get_or, take, drop, eqb, Result, Ok, Err}
 use Rattle.language.specs.declared.Fault.{Fault}
-use Rattle.language.specs.declared.Fault.TheVariants.{StrayMark}
 use Rattle.language.specs.Syntax.{operator_byte, access_byte, condition_byte, operator, variable, constant, print}
 use Rattle.language.specs.Tokens.{Token, opens, closes, semis, colons, begins, ends, does, asks, counts, calls, faults}
 use Rattle.language.specs.Between.{between}
@@ -15,10 +14,7 @@ use Rattle.lexer.specs.declared.Kind.TheVariants as K
 use Rattle.lexer.specs.declared.Token as Lexer
 use Rattle.lexer.specs.declared.Token.TheVariants as T
 use Rattle.lexer.specs.declared.Lexed.{Lexed}
-use Rattle.lexer.specs.declared.Skipped.{Skipped}
-use Rattle.lexer.specs.declared.Skipped.TheVariants as S
 use Rattle.lexer.specs.declared.Number.{Number}
-use Rattle.lexer.specs.declared.Number.TheVariants.{Value, Refused}
 
 -- ── the kind of a byte ──────────────────────────────────────────────────────────────────────────
 
@@ -67,11 +63,6 @@ kind_of b = kind_ranked (byte_rank b)
 
 -- ── a number ────────────────────────────────────────────────────────────────────────────────────
 
--- `StrayMark` where there is none
-abbrev pub fault_of : Number → Fault
-fault_of (Value v n) = StrayMark
-fault_of (Refused r) = r
-
 -- place `from` is in the text s, so many digits fit the code's number, and the closing byte comes before the digits
 pub record Countable (s : List ℕ) (from most close : ℕ) : Type 0 where
   pub inside : from ≤ length s
@@ -86,16 +77,11 @@ pub record NumberTo (s : List ℕ) (f : Form) (from v n : ℕ) : Type 0 where
   pub inside : n ≤ length s
 
 -- the reading of a number of form f, whose digits start at place `from` of the text s
-abbrev pub NumberIs : List ℕ → Form → ℕ → Number → Type 0
-NumberIs s f from (Value v n) = NumberTo s f from v n
-NumberIs s f from (Refused r) = tokens (drop from s) (number f 0 0) ≡ faults r ∷ []
+abbrev pub NumberIs : List ℕ → Form → ℕ → Result Number Fault → Type 0
+NumberIs s f from (Ok n) = NumberTo s f from n.value n.next
+NumberIs s f from (Err r) = tokens (drop from s) (number f 0 0) ≡ faults r ∷ []
 
 -- ── what is skipped between marks ───────────────────────────────────────────────────────────────
-
--- `StrayMark` where there is none
-abbrev pub skip_fault : Skipped → Fault
-skip_fault (S.To n) = StrayMark
-skip_fault (S.Refused r) = r
 
 -- from place `from` of the text s to place n, where the tokens are t
 pub record SkipsTo (t : List Token) (s : List ℕ) (from n : ℕ) : Type 0 where
@@ -104,9 +90,9 @@ pub record SkipsTo (t : List Token) (s : List ℕ) (from n : ℕ) : Type 0 where
   pub inside : from < n → n ≤ length s
 
 -- from place `from` of the text s on, where the tokens are t
-abbrev pub Skips : List Token → List ℕ → ℕ → Skipped → Type 0
-Skips t s from (S.To n) = SkipsTo t s from n
-Skips t s from (S.Refused r) = t ≡ faults r ∷ []
+abbrev pub Skips : List Token → List ℕ → ℕ → Result ℕ Fault → Type 0
+Skips t s from (Ok n) = SkipsTo t s from n
+Skips t s from (Err r) = t ≡ faults r ∷ []
 
 -- the byte is no blank, newline or `"`
 pub record NoSpace (b : ℕ) : Type 0 where
@@ -118,22 +104,13 @@ pub record NoSpace (b : ℕ) : Type 0 where
 abbrev pub MarkAt : List ℕ → ℕ → Type 0
 MarkAt s i = i < length s → NoSpace (get_or s i 0)
 
--- where nothing is skipped, there is nothing to skip
-abbrev pub Stays : List ℕ → ℕ → Skipped → Type 0
-Stays s at r = r ≡ S.To at → MarkAt s at
-
--- what one step skips, and that it skips something where it can
-pub record StepsOver (s : List ℕ) (at : ℕ) (r : Skipped) : Type 0 where
-  pub skips : Skips (tokens (drop at s) idle) s at r
-  pub stays : Stays s at r
-
 -- nothing to skip is left
-abbrev pub Settles : List ℕ → Skipped → Type 0
-Settles s (S.To n) = MarkAt s n
-Settles s (S.Refused r) = Unit {0}
+abbrev pub Settles : List ℕ → Result ℕ Fault → Type 0
+Settles s (Ok n) = MarkAt s n
+Settles s (Err r) = Unit {0}
 
 -- what is skipped, all of it
-pub record SkipsOver (s : List ℕ) (from : ℕ) (r : Skipped) : Type 0 where
+pub record SkipsOver (s : List ℕ) (from : ℕ) (r : Result ℕ Fault) : Type 0 where
   pub skips : Skips (tokens (drop from s) idle) s from r
   pub settles : Settles s r
 
@@ -157,9 +134,7 @@ pub record Prints (s : List ℕ) (a n : ℕ) (t l : List Token) : Type 0 where
 
 -- The code's token is the first of the tokens t of the text s, with `begins` where a mark inside an expression begins, and l are the others.
 abbrev pub Means : List ℕ → Lexer.Token → List Token → List Token → Type 0
-Means s T.Blank t l = t ≡ l
 Means s T.End t l = t ≡ ends ∷ []
-Means s (T.Fault r) t l = (t ≡ faults r ∷ []) ⊎ (t ≡ begins ∷ faults r ∷ [])
 Means s T.Open t l = t ≡ opens ∷ l
 Means s T.Close t l = t ≡ closes ∷ l
 Means s T.Semicolon t l = t ≡ semis ∷ l
@@ -172,14 +147,24 @@ Means s (T.Counter n) t l = Counts n t l
 Means s (T.Constant v) t l = t ≡ begins ∷ does (constant v) ∷ l
 Means s (T.Print a n) t l = Prints s a n t l
 
--- a reading from place `from` of the text s on, where the tokens are t
-pub record Lexes (t : List Token) (s : List ℕ) (from : ℕ) (r : Lexed) : Type 0 where
-  pub means : Means s r.token t (tokens (drop r.next s) idle)
-  pub after : from ≤ r.next
-  pub inside : r.next ≤ length s
+-- a token read from place `from` of the text s on, where the tokens are t
+pub record LexesTo (t : List Token) (s : List ℕ) (from : ℕ) (l : Lexed) : Type 0 where
+  pub means : Means s l.token t (tokens (drop l.next s) idle)
+  pub after : from ≤ l.next
+  pub inside : l.next ≤ length s
+
+-- a reading after the first byte of a mark, where the tokens are t
+abbrev pub Lexes : List Token → List ℕ → ℕ → Result Lexed Fault → Type 0
+Lexes t s from (Ok l) = LexesTo t s from l
+Lexes t s from (Err r) = t ≡ begins ∷ faults r ∷ []
 
 -- where a whole token is read: all but the end of the text takes bytes of the text
-pub record Takes (t : List Token) (s : List ℕ) (from : ℕ) (r : Lexed) : Type 0 where
-  pub means : Means s r.token t (tokens (drop r.next s) idle)
-  pub further : (r.token ≡ T.End → ⊥) → from < r.next
-  pub inside : (r.token ≡ T.End → ⊥) → r.next ≤ length s
+pub record TakesTo (t : List Token) (s : List ℕ) (from : ℕ) (l : Lexed) : Type 0 where
+  pub means : Means s l.token t (tokens (drop l.next s) idle)
+  pub further : (l.token ≡ T.End → ⊥) → from < l.next
+  pub inside : (l.token ≡ T.End → ⊥) → l.next ≤ length s
+
+-- the reading of a whole token: a fault stands before a mark or in one
+abbrev pub Takes : List Token → List ℕ → ℕ → Result Lexed Fault → Type 0
+Takes t s from (Ok l) = TakesTo t s from l
+Takes t s from (Err r) = (t ≡ faults r ∷ []) ⊎ (t ≡ begins ∷ faults r ∷ [])

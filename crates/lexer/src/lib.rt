@@ -2,23 +2,20 @@
 #![tactic(auto)]
 
 ghost use Rattle.std.specs.Prelude.{◌≡◌, [], ◌∷◌, ◌+◌, ◌-◌, ◌≤◌, ◌<◌, length, drop};
+ghost use Rattle.language.specs.Between.{between};
 ghost use Rattle.language.specs.Syntax.{Access, access_byte};
 ghost use Rattle.language.specs.Tokens.{begins, idle, comment, after-tick, after-access, number, printing, tokens};
 ghost use Rattle.language.specs.Tokens.{Form, counter_form, constant_form, most_digits, closing_byte, form_fault};
-ghost use Rattle.lexer.specs.declared.Token.TheVariants as T;
-ghost use Rattle.lexer.specs.Lexing.{kind_of, fault_of, Countable, NumberIs, skip_fault, Skips, StepsOver, SkipsOver, Lexes, Takes};
+ghost use Rattle.lexer.specs.Lexing.{kind_of, Countable, NumberIs, Skips, SkipsOver, Lexes, Takes};
 
 use language::Fault;
 use numerals::DIGITS;
-
-// "Counter: `$`, 1 to 4 digits, `$`"
-const COUNTER_DIGITS: usize = 4;
 
 // "digit (0 as 10, as in 000)"
 const ZERO_AS: u8 = 10;
 
 // What a byte is where a token may begin.
-#[derive(Clone, Copy)]
+#[derive(Clone, Copy, Debug, PartialEq, Eq)]
 pub enum Kind {
     Blank,
     Quote,
@@ -37,12 +34,10 @@ pub enum Kind {
 }
 
 // A token, a mark of document 01. An operator, a variable, a condition and a call have their byte, a variable also its digit (0 as 10), a counter its
-// number, a constant its value, a print the place of its first byte and its length. `Blank` is what is skipped between marks.
-#[derive(Clone, Copy)]
+// number, a constant its value, a print the place of its first byte and its length.
+#[derive(Clone, Copy, Debug, PartialEq, Eq)]
 pub enum Token {
-    Blank,
     End,
-    Fault(Fault),
     Open,
     Close,
     Semicolon,
@@ -57,42 +52,40 @@ pub enum Token {
 }
 
 // A token and the place after it.
-#[derive(Clone, Copy)]
+#[derive(Clone, Copy, Debug, PartialEq, Eq)]
 pub struct Lexed {
     pub token: Token,
     pub next: usize,
 }
 
-// A place after what is skipped between marks, or the refusal.
+// The value of a number and the place after its closing byte.
+#[derive(Clone, Copy, Debug, PartialEq, Eq)]
+pub struct Number {
+    pub value: u32,
+    pub next: usize,
+}
+
+// How a number is written: its most digits, the byte that closes it, and the fault where a byte breaks its form.
 #[derive(Clone, Copy)]
-pub enum Skipped {
-    To(usize),
-    Refused(Fault),
+struct NumberForm {
+    most: usize,
+    close: u8,
+    fault: Fault,
 }
 
-// What the reader of numbers answers: a value and the place after its closing byte, or the refusal.
-#[derive(Clone, Copy)]
-pub enum Number {
-    Value(u32, usize),
-    Refused(Fault),
-}
+// "Counter: `$`, 1 to 4 digits, `$`"
+const COUNTER: NumberForm = NumberForm {
+    most: 4,
+    close: b'$',
+    fault: Fault::BadCounter,
+};
 
-// A token and the place after it.
-fn answer(token: Token, next: usize) -> Lexed
-    ensures { result ≡ record { token = token; next = next } }
-{
-    Lexed { token, next }
-}
-
-// The same for a fault.
-fn fault(why: Fault, next: usize) -> Lexed
-    ensures { result ≡ record { token = T.Fault why; next = next } }
-{
-    Lexed {
-        token: Token::Fault(why),
-        next,
-    }
-}
+// "Constant: `'/`, perhaps `-`, 1 to 9 digits, `'`"
+const CONSTANT: NumberForm = NumberForm {
+    most: DIGITS,
+    close: b'\'',
+    fault: Fault::BadConstant,
+};
 
 // The kind of mark that a byte begins.
 fn kind_of(b: u8) -> Kind
@@ -117,269 +110,180 @@ fn kind_of(b: u8) -> Kind
     }
 }
 
-// A byte's number in 32 bits.
-fn wide(x: u8) -> u32
-    ensures { result ≡ x }
+// A byte of a comment or a print other than the one that ends it and a comment's newline.
+fn is_printable(b: u8) -> bool
+    ensures { result ≡ between 32 126 b }
 {
-    x as u32
+    (b' '..=b'~').contains(&b)
 }
 
-// The refusal of a number that is refused.
-fn fault_of(n: Number) -> Fault
-    ensures { result ≡ fault_of n }
+// The digits of a number of a form, 1 or more, and its closing byte.
+fn digits(text: &[u8], from: usize, form: NumberForm) -> Result<Number, Fault>
+    requires { Countable text.now from form.most form.close }
+    ensures { (f : Form) → most_digits f ≡ form.most → closing_byte f ≡ form.close → form_fault f ≡ form.fault → NumberIs text.now f from result }
 {
-    match n {
-        Number::Value(_, _) => Fault::StrayMark,
-        Number::Refused(r) => r,
-    }
-}
-
-// 1 to `most` digits and then the byte `close`.
-fn digits(text: &[u8], from: usize, most: usize, close: u8, fault: Fault) -> Number
-    requires { Countable text.now from most close }
-    ensures { (f : Form) → most_digits f ≡ most → closing_byte f ≡ close → form_fault f ≡ fault → NumberIs text.now f from result }
-{
-    let mut i = from;
-    let mut n: usize = 0;
-    let mut v: u32 = 0;
-    while i < text.len() {
+    let mut value: u32 = 0;
+    for i in from..text.len() {
         let b = text[i];
-        if b < b'0' {
-            if b != close {
-                return Number::Refused(fault);
-            }
-            if n == 0 {
-                return Number::Refused(fault);
-            }
-            return Number::Value(v, i + 1);
+        if b == form.close && from < i {
+            return Ok(Number { value, next: i + 1 });
         }
-        if b'9' < b {
-            return Number::Refused(fault);
+        if !b.is_ascii_digit() || i - from == form.most {
+            return Err(form.fault);
         }
-        if n == most {
-            return Number::Refused(fault);
-        }
-        v = 10 * v + wide(b - b'0');
-        n += 1;
-        i += 1;
+        value = 10 * value + u32::from(b - b'0');
     }
-    Number::Refused(Fault::Unfinished)
+    Err(Fault::Unfinished)
 }
 
-// After the `"` that opens a comment.
-fn comment(text: &[u8], from: usize) -> Skipped
+// After the `"` that opens a comment: the place after the `"` that ends it.
+fn comment(text: &[u8], from: usize) -> Result<usize, Fault>
     requires { from ≤ length text.now }
     ensures { Skips (tokens (drop from text.now) comment) text.now from result }
 {
-    let mut i = from;
-    while i < text.len() {
+    for i in from..text.len() {
         let b = text[i];
         if b == b'"' {
-            return Skipped::To(i + 1);
+            return Ok(i + 1);
         }
-        if b < b' ' {
-            if b != b'\n' {
-                return Skipped::Refused(Fault::StrayMark);
-            }
+        if b != b'\n' && !is_printable(b) {
+            return Err(Fault::StrayMark);
         }
-        if b'~' < b {
-            return Skipped::Refused(Fault::StrayMark);
-        }
-        i += 1;
     }
-    Skipped::Refused(Fault::Unfinished)
+    Err(Fault::Unfinished)
 }
 
-// The refusal of what could not be skipped.
-pub fn skip_fault(s: Skipped) -> Fault
-    ensures { result ≡ skip_fault s }
-{
-    match s {
-        Skipped::To(_) => Fault::StrayMark,
-        Skipped::Refused(r) => r,
-    }
-}
-
-// One blank, newline or comment; none where a mark or the end of the text stands.
-fn skip_one(text: &[u8], at: usize) -> Skipped
-    ensures { StepsOver text.now at result }
-{
-    if text.len() <= at {
-        return Skipped::To(at);
-    }
-    let b = text[at];
-    if b == b'"' {
-        return comment(text, at + 1);
-    }
-    if b != b' ' {
-        if b != b'\n' {
-            return Skipped::To(at);
-        }
-    }
-    Skipped::To(at + 1)
-}
-
-// Blanks, newlines and comments, as many as there are.
-pub fn skip(text: &[u8], from: usize) -> Skipped
+// Blanks, newlines and comments, as many as there are: the place after them.
+pub fn skip(text: &[u8], from: usize) -> Result<usize, Fault>
     ensures { SkipsOver text.now from result }
 {
     let mut at = from;
-    loop {
-        let r = skip_one(text, at);
-        let Skipped::To(next) = r else {
-            return r;
-        };
-        if next == at {
-            return r;
+    while at < text.len() {
+        match text[at] {
+            b'"' => at = comment(text, at + 1)?,
+            b' ' | b'\n' => at += 1,
+            _ => return Ok(at),
         }
-        at = next;
     }
-}
-
-// After the `"` that opens a comment, which is as a blank.
-fn quote(text: &[u8], at: usize) -> Lexed
-    requires { at ≤ length text.now }
-    ensures { Lexes (tokens (drop at text.now) comment) text.now at result }
-{
-    let c = comment(text, at);
-    match c {
-        Skipped::To(after) => answer(Token::Blank, after),
-        Skipped::Refused(r) => fault(r, at),
-    }
+    Ok(at)
 }
 
 // After `F` or `S`.
-fn variable(text: &[u8], at: usize, b: u8) -> Lexed
+fn variable(text: &[u8], at: usize, b: u8) -> Result<Lexed, Fault>
     requires { at ≤ length text.now }
     ensures { (a : Access) → access_byte a ≡ b → Lexes (begins ∷ tokens (drop at text.now) (after-access a)) text.now at result }
 {
-    if text.len() <= at {
-        return fault(Fault::Unfinished, at);
-    }
-    let d = text[at];
-    match d {
-        b'0' => answer(Token::Variable(b, ZERO_AS), at + 1),
-        b'1'..=b'9' => answer(Token::Variable(b, d - b'0'), at + 1),
-        _ => fault(Fault::StrayMark, at),
-    }
+    let Some(&d) = text.get(at) else {
+        return Err(Fault::Unfinished);
+    };
+    let digit = match d {
+        b'0' => ZERO_AS,
+        b'1'..=b'9' => d - b'0',
+        _ => return Err(Fault::StrayMark),
+    };
+    Ok(Lexed {
+        token: Token::Variable(b, digit),
+        next: at + 1,
+    })
 }
 
 // After the `$` that opens a counter.
-fn counter(text: &[u8], from: usize) -> Lexed
+fn counter(text: &[u8], from: usize) -> Result<Lexed, Fault>
     requires { from ≤ length text.now }
     ensures { Lexes (begins ∷ tokens (drop from text.now) (number counter_form 0 0)) text.now from result }
 {
-    let n = digits(text, from, COUNTER_DIGITS, b'$', Fault::BadCounter);
-    let Number::Value(value, next) = n else {
-        return fault(fault_of(n), from);
-    };
+    let Number { value, next } = digits(text, from, COUNTER)?;
     if value == 0 {
-        return fault(Fault::BadCounter, from);
+        return Err(Fault::BadCounter);
     }
-    answer(Token::Counter(value), next)
+    Ok(Lexed {
+        token: Token::Counter(value),
+        next,
+    })
 }
 
 // After `'/` and perhaps `-`.
-fn constant(text: &[u8], from: usize, minus: bool) -> Lexed
+fn constant(text: &[u8], from: usize, minus: bool) -> Result<Lexed, Fault>
     requires { from ≤ length text.now }
     ensures { Lexes (begins ∷ tokens (drop from text.now) (number (constant_form minus) 0 0)) text.now from result }
 {
-    let n = digits(text, from, DIGITS, b'\'', Fault::BadConstant);
-    let Number::Value(value, next) = n else {
-        return fault(fault_of(n), from);
-    };
-    if minus {
-        return answer(Token::Constant(0 - value as i32), next);
-    }
-    answer(Token::Constant(value as i32), next)
+    let Number { value, next } = digits(text, from, CONSTANT)?;
+    let plain = value as i32;
+    let token = Token::Constant(if minus { -plain } else { plain });
+    Ok(Lexed { token, next })
 }
 
 // After the `''` that opens a print.
-fn print(text: &[u8], from: usize) -> Lexed
+fn print(text: &[u8], from: usize) -> Result<Lexed, Fault>
     requires { from ≤ length text.now }
     ensures { Lexes (begins ∷ tokens (drop from text.now) (printing [])) text.now from result }
 {
-    let mut i = from;
-    while i < text.len() {
+    for i in from..text.len() {
         let b = text[i];
         if b == b'\'' {
-            return answer(Token::Print(from, i - from), i + 1);
+            return Ok(Lexed {
+                token: Token::Print(from, i - from),
+                next: i + 1,
+            });
         }
-        if b < b' ' {
-            return fault(Fault::StrayMark, i);
+        if !is_printable(b) {
+            return Err(Fault::StrayMark);
         }
-        if b'~' < b {
-            return fault(Fault::StrayMark, i);
-        }
-        i += 1;
     }
-    fault(Fault::Unfinished, i)
+    Err(Fault::Unfinished)
 }
 
 // After a `'`: a print or a constant.
-fn quoted(text: &[u8], at: usize) -> Lexed
+fn quoted(text: &[u8], at: usize) -> Result<Lexed, Fault>
     requires { at ≤ length text.now }
     ensures { Lexes (begins ∷ tokens (drop at text.now) after-tick) text.now at result }
 {
-    if text.len() <= at {
-        return fault(Fault::Unfinished, at);
-    }
-    let b = text[at];
-    if b == b'\'' {
-        return print(text, at + 1);
-    }
-    if b != b'/' {
-        return fault(Fault::StrayMark, at);
-    }
-    let from = at + 1;
-    if text.len() <= from {
-        return fault(Fault::Unfinished, at);
-    }
-    if text[from] == b'-' {
-        return constant(text, from + 1, true);
-    }
-    constant(text, from, false)
-}
-
-// What begins at a place: a token, a blank or a comment.
-fn token_at(text: &[u8], at: usize) -> Lexed
-    ensures { Takes (tokens (drop at text.now) idle) text.now at result }
-{
-    if text.len() <= at {
-        return answer(Token::End, at);
-    }
-    let next = at + 1;
-    let b = text[at];
-    let k = kind_of(b);
-    match k {
-        Kind::Blank => answer(Token::Blank, next),
-        Kind::Quote => quote(text, next),
-        Kind::Open => answer(Token::Open, next),
-        Kind::Close => answer(Token::Close, next),
-        Kind::Semicolon => answer(Token::Semicolon, next),
-        Kind::Colon => answer(Token::Colon, next),
-        Kind::Operator => answer(Token::Operator(b), next),
-        Kind::Access => variable(text, next, b),
-        Kind::Condition => answer(Token::Condition(b), next),
-        Kind::Letter => answer(Token::Call(b), next),
-        Kind::Dollar => counter(text, next),
-        Kind::Tick => quoted(text, next),
-        Kind::Digit => fault(Fault::StrayMark, next),
-        Kind::Stray => fault(Fault::StrayMark, next),
+    match text.get(at) {
+        None => Err(Fault::Unfinished),
+        Some(b'\'') => print(text, at + 1),
+        Some(b'/') => match text.get(at + 1) {
+            None => Err(Fault::Unfinished),
+            Some(b'-') => constant(text, at + 2, true),
+            Some(_) => constant(text, at + 1, false),
+        },
+        Some(_) => Err(Fault::StrayMark),
     }
 }
 
-// The next token after blanks and comments.
-pub fn next_token(text: &[u8], from: usize) -> Lexed
+// The next token after blanks and comments. They are skipped here too: with a call of `skip` for each token, the tokens of a text took 1.2 times as
+// long.
+pub fn next_token(text: &[u8], from: usize) -> Result<Lexed, Fault>
     ensures { Takes (tokens (drop from text.now) idle) text.now from result }
 {
     let mut at = from;
-    loop {
-        let r = token_at(text, at);
-        let t = r.token;
-        let Token::Blank = t else {
-            return r;
+    while at < text.len() {
+        let b = text[at];
+        let next = at + 1;
+        let token = match kind_of(b) {
+            Kind::Blank => {
+                at = next;
+                continue;
+            },
+            Kind::Quote => {
+                at = comment(text, next)?;
+                continue;
+            },
+            Kind::Open => Token::Open,
+            Kind::Close => Token::Close,
+            Kind::Semicolon => Token::Semicolon,
+            Kind::Colon => Token::Colon,
+            Kind::Operator => Token::Operator(b),
+            Kind::Access => return variable(text, next, b),
+            Kind::Condition => Token::Condition(b),
+            Kind::Letter => Token::Call(b),
+            Kind::Dollar => return counter(text, next),
+            Kind::Tick => return quoted(text, next),
+            Kind::Digit | Kind::Stray => return Err(Fault::StrayMark),
         };
-        at = r.next;
+        return Ok(Lexed { token, next });
     }
+    Ok(Lexed {
+        token: Token::End,
+        next: at,
+    })
 }

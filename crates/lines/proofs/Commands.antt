@@ -16,9 +16,8 @@ use Rattle.numerals.specs.declared.Numeral.{Numeral}
 use Rattle.numerals.specs.Numerals.{Reads, value_of}
 use Rattle.numerals.proofs.Numerals.{pow-up}
 use Rattle.numerals.proofs.Ints.{value-near}
-use Rattle.lines.specs.declared.Input.{Input}
-use Rattle.lines.specs.declared.Input.TheVariants.{Value, NoValue}
-use Rattle.lines.specs.declared.Command.TheVariants.{Run, Bad}
+use Rattle.std.specs.Prelude.{Option, Some, None}
+use Rattle.lines.specs.declared.Command.TheVariants.{Run}
 use Rattle.lines.specs.Lines.{max_inputs, bad, Field, input, allowed, given, sign, number, fields}
 use Rattle.lines.specs.Commands.{Parsed, Ready, after, NumberAt, InputAt, InputIs}
 use Rattle.lines.proofs.Lines.{digits-on, number-none, number-closed, number-other, number-ended, number-unended, sign-minus, sign-plain}
@@ -82,22 +81,22 @@ signed-at s from v next m r n e =
     }
 
 -- after a `-`
-pub input-minus : (s : List ℕ) (from : ℕ) (r : Input) → from < length s → get_or s from 0 ≡ minus_byte
+pub input-minus : (s : List ℕ) (from : ℕ) (r : Option (ℤ × ℕ)) → from < length s → get_or s from 0 ≡ minus_byte
     → InputIs (λ a x. number (input a x true) 0 0) s (from + 1) r → InputIs sign s from r
-input-minus s from (Value v next) h e q =
+input-minus s from (Some r) h e q =
     record {
       means = λ l a x. sign-minus s from l a x h e ∙ q.means l a x;
       further = omega (arith, q.further);
       inside = q.inside;
     }
-input-minus s from NoValue h e q = λ l a x. sign-minus s from l a x h e ∙ q l a x
+input-minus s from None h e q = λ l a x. sign-minus s from l a x h e ∙ q l a x
 
 -- without
-pub input-plain : (s : List ℕ) (from : ℕ) (r : Input) → from < length s → (get_or s from 0 ≡ minus_byte → ⊥)
+pub input-plain : (s : List ℕ) (from : ℕ) (r : Option (ℤ × ℕ)) → from < length s → (get_or s from 0 ≡ minus_byte → ⊥)
     → InputIs (λ a x. number (input a x false) 0 0) s from r → InputIs sign s from r
-input-plain s from (Value v next) h e q =
+input-plain s from (Some r) h e q =
     record { means = λ l a x. sign-plain s from l a x h e ∙ q.means l a x; further = q.further; inside = q.inside }
-input-plain s from NoValue h e q = λ l a x. sign-plain s from l a x h e ∙ q l a x
+input-plain s from None h e q = λ l a x. sign-plain s from l a x h e ∙ q l a x
 
 -- ── inputs ──────────────────────────────────────────────────────────────────────────────────────
 
@@ -115,12 +114,12 @@ module _ (s : List ℕ) (from l a : ℕ) (x : List ℤ) (i n : ℕ) (t : Taking 
   length_taken : length (take n x) ≡ n
   length_taken = length-take-le n x (omega (arith, t.few, t.places))
 
-  pub taking-done : length s ≤ i → Parsed (Run l a n) s x (after (drop from s) l a [])
+  pub taking-done : length s ≤ i → Parsed (Some (Run l a n)) s x (after (drop from s) l a [])
   taking-done h =
       record { asks = record { means = sym (after-end s i l a (take n x) h) ∙ t.same; within = t.few }; places = t.places }
 
   module _ (h : i < length s) where
-    pub taking-full : n ≡ max_inputs → Parsed Bad s x (after (drop from s) l a [])
+    pub taking-full : n ≡ max_inputs → Parsed None s x (after (drop from s) l a [])
     taking-full e =
         record {
           asks = record { means = sym (after-full s i l a (take n x) h (omega (arith, length_taken))) ∙ t.same; within = tt };
@@ -131,7 +130,7 @@ module _ (s : List ℕ) (from l a : ℕ) (x : List ℤ) (i n : ℕ) (t : Taking 
       next_field : fields (drop (i + 1) s) l (sign a (take n x)) ≡ after (drop from s) l a []
       next_field = sym (after_on s i l a (take n x) h (omega (arith, length_taken))) ∙ t.same
 
-      pub taking-bad : ((l a : ℕ) (x : List ℤ) → fields (drop (i + 1) s) l (sign a x) ≡ bad) → Parsed Bad s x (after (drop from s) l a [])
+      pub taking-bad : ((l a : ℕ) (x : List ℤ) → fields (drop (i + 1) s) l (sign a x) ≡ bad) → Parsed None s x (after (drop from s) l a [])
       taking-bad f =
           record { asks = record { means = sym (f l a (take n x)) ∙ next_field; within = tt }; places = t.places }
 

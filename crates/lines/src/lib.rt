@@ -23,65 +23,48 @@ const LETTER_END: usize = 3;
 pub const FIELD_START: usize = 4;
 
 // What a line asks for. The text of a define is the line's from `FIELD_START` on; a run has its allowance and how many inputs it brings.
-#[derive(Clone, Copy)]
+#[derive(Clone, Copy, Debug, PartialEq, Eq)]
 pub enum Command {
     Define(u8),
     Withdraw(u8),
     Run(u8, u32, usize),
-    Bad,
 }
 
-// 1 to 9 digits: their value and the place after them.
-#[derive(Clone, Copy)]
-enum Number {
-    Digits(u32, usize),
-    NoDigits,
-}
-
-// An input and the place after it.
-#[derive(Clone, Copy)]
-enum Input {
-    Value(i32, usize),
-    NoValue,
-}
-
-// 1 to 9 digits, and then a blank or the end of the line.
-fn read_number(line: &[u8], from: usize) -> Number
+// 1 to 9 digits, and then a blank or the end of the line: their value and the place after them.
+fn read_number(line: &[u8], from: usize) -> Option<(u32, usize)>
     requires { from ≤ length line.now }
     ensures { NumberIs line.now from result }
 {
     let n = read_digits(line, from, DIGITS);
     if n.count == 0 {
-        return Number::NoDigits;
+        return None;
     }
     let next = from + n.count;
     if next == line.len() {
-        return Number::Digits(n.value, next);
+        return Some((n.value, next));
     }
     if line[next] != b' ' {
-        return Number::NoDigits;
+        return None;
     }
-    Number::Digits(n.value, next)
+    Some((n.value, next))
 }
 
-// The digits of an input, after a `-` if it is said.
-fn read_signed(line: &[u8], from: usize, minus: bool) -> Input
+// The digits of an input, after a `-` if it is said: its value and the place after it.
+fn read_signed(line: &[u8], from: usize, minus: bool) -> Option<(i32, usize)>
     requires { from ≤ length line.now }
     ensures { InputIs (λ a x. number (input a x minus) 0 0) line.now from result }
 {
-    let Number::Digits(v, next) = read_number(line, from) else {
-        return Input::NoValue;
-    };
-    Input::Value(value_of(minus, v), next)
+    let (v, next) = read_number(line, from)?;
+    Some((value_of(minus, v), next))
 }
 
 // An input, "perhaps with `-`".
-fn read_input(line: &[u8], from: usize) -> Input
+fn read_input(line: &[u8], from: usize) -> Option<(i32, usize)>
     requires { from ≤ length line.now }
     ensures { InputIs sign line.now from result }
 {
     if from == line.len() {
-        return Input::NoValue;
+        return None;
     }
     if line[from] == b'-' {
         return read_signed(line, from + 1, true);
@@ -96,7 +79,7 @@ fn inputs(
     letter: u8,
     allowance: u32,
     values: &mut [i32; INPUTS],
-) -> Command
+) -> Option<Command>
     requires { Ready line.now from values.old }
     ensures { Parsed result line.now values.new (after (drop from line.now) letter allowance []) }
 {
@@ -104,81 +87,76 @@ fn inputs(
     let mut count: usize = 0;
     while i < line.len() {
         if count == INPUTS {
-            return Command::Bad;
+            return None;
         }
-        let Input::Value(v, next) = read_input(line, i + 1) else {
-            return Command::Bad;
-        };
+        let (v, next) = read_input(line, i + 1)?;
         values[count] = v;
         count += 1;
         i = next;
     }
-    Command::Run(letter, allowance, count)
+    Some(Command::Run(letter, allowance, count))
 }
 
 // What comes after the letter of `R`.
-fn execution(line: &[u8], letter: u8, values: &mut [i32; INPUTS]) -> Command
+fn execution(line: &[u8], letter: u8, values: &mut [i32; INPUTS]) -> Option<Command>
     requires { Ready line.now letter_end values.old }
     ensures { Parsed result line.now values.new (execution letter (drop letter_end line.now)) }
 {
     if line.len() == LETTER_END {
-        return Command::Bad;
+        return None;
     }
     if line[LETTER_END] != b' ' {
-        return Command::Bad;
+        return None;
     }
-    let Number::Digits(allowance, next) = read_number(line, FIELD_START) else {
-        return Command::Bad;
-    };
+    let (allowance, next) = read_number(line, FIELD_START)?;
     inputs(line, next, letter, allowance, values)
 }
 
 // What comes after the letter of `X`: nothing.
-fn withdrawal(line: &[u8], letter: u8) -> Command
+fn withdrawal(line: &[u8], letter: u8) -> Option<Command>
     requires { letter_end ≤ length line.now }
     ensures { (x : List ℤ) → Asks result line.now x (withdrawal letter (drop letter_end line.now)) }
 {
     if line.len() != LETTER_END {
-        return Command::Bad;
+        return None;
     }
-    Command::Withdraw(letter)
+    Some(Command::Withdraw(letter))
 }
 
 // What comes after the letter of `D`.
-fn definition(line: &[u8], letter: u8) -> Command
+fn definition(line: &[u8], letter: u8) -> Option<Command>
     requires { letter_end ≤ length line.now }
     ensures { (x : List ℤ) → Asks result line.now x (definition letter (drop letter_end line.now)) }
 {
     if line.len() == LETTER_END {
-        return Command::Bad; // no blank after the letter
+        return None; // no blank after the letter
     }
     if line[LETTER_END] != b' ' {
-        return Command::Bad;
+        return None;
     }
-    Command::Define(letter)
+    Some(Command::Define(letter))
 }
 
-// What a line asks for. The inputs of a run go to the first of `values`.
-pub fn parse(line: &[u8], values: &mut [i32; INPUTS]) -> Command
+// What a line asks for, or `None` where it breaks its form. The inputs of a run go to the first of `values`.
+pub fn parse(line: &[u8], values: &mut [i32; INPUTS]) -> Option<Command>
     ensures { Parsed result line.now values.new (request line.now) }
 {
     *values = [0i32; INPUTS];
     let n = line.len();
     if LINE < n {
-        return Command::Bad;
+        return None;
     }
     if n < LETTER_END {
-        return Command::Bad;
+        return None;
     }
     if line[1] != b' ' {
-        return Command::Bad;
+        return None;
     }
     let letter = line[2];
-    let c = line[0];
-    match c {
+    match line[0] {
         b'D' => definition(line, letter),
         b'X' => withdrawal(line, letter),
         b'R' => execution(line, letter, values),
-        _ => Command::Bad,
+        _ => None,
     }
 }

@@ -2,12 +2,10 @@
 use mathlib.Core.Path.{◌≡◌, refl, sym, ap, ◌∙◌}
 use mathlib.Core.List.{List, [], ◌∷◌}
 use Prim.Native.Nat.{ℕ, ◌+◌, ◌≤◌, ◌<◌}
-use lib.IntN.{ℤ}
 use lib.ListN.{length, get_or, drop}
 use lib.Dec.{T}
 use borrow.Author.Tests.{le-leb, lt-leb}
-use Rattle.std.specs.Prelude.{None, Some, Ok, Err}
-use Rattle.std.proofs.lemmas.Option.{none-some}
+use Rattle.std.specs.Prelude.{Ok, Err}
 use Rattle.language.specs.Limits.{max_text}
 use Rattle.language.specs.declared.Fault.{Fault}
 use Rattle.language.specs.declared.Fault.TheVariants.{LongText, StrayMark, Unfinished}
@@ -15,12 +13,12 @@ use Rattle.language.specs.Syntax.{Expr}
 use Rattle.language.specs.Tokens.{Token, faults, Class, blank, quote, opening, closing, semicolon, point, dollar, tick, stray, operating, accessing, comparing, calling, class}
 use Rattle.language.specs.Tokens.{Mode, idle, first, finish, tokens}
 use Rattle.language.specs.Reading.{refused, accepted, outside, whole, require, starting, ending, parse, read}
-use Rattle.assembler.specs.declared.scan.Scanned.{Scanned}
-use Rattle.lexer.specs.Lexing.{MarkAt}
+use Rattle.emitter.specs.declared.pass.Draft.{Draft}
+use Rattle.lexer.specs.Lexing.{MarkAt, SkipsTo}
 use Rattle.language.specs.Bytes.{open_byte}
 use Rattle.linker.specs.Linked.{linked}
-use Rattle.assembler.specs.Exits.{linked_cells, Fillable}
-use Rattle.assembler.specs.Scanning.{parsed_from, Scans, stops, ends}
+use Rattle.assembler.specs.Exits.{linked as settled}
+use Rattle.assembler.specs.Scanning.{parsed_from, Ends}
 use Rattle.lexer.proofs.LexingSorts.{is_permission, is_other, a-mark, no-opening, the-opening}
 use Rattle.lexer.proofs.Lexing.{tokens-end, tokens-first}
 
@@ -108,9 +106,9 @@ module _ (s : List ℕ) (short : length s ≤ max_text) where
   pub link-unskipped : (r : Fault) → tokens s idle ≡ faults r ∷ [] → Err r ≡ linked (read s)
   link-unskipped r e = sym (ap linked (read_short s short ∙ before-fault (tokens s idle) r e))
 
-  module _ (i : ℕ) (skipped : tokens s idle ≡ tokens (drop i s) idle) where
+  module _ (i : ℕ) (k : SkipsTo (tokens s idle) s 0 i) where
     read_at : read s ≡ parse (tokens (drop i s) idle) outside
-    read_at = read_short s short ∙ ap (λ t. parse t outside) skipped
+    read_at = read_short s short ∙ ap (λ t. parse t outside) k.tokens-are
 
     pub link-empty : length s ≤ i → Err Unfinished ≡ linked (read s)
     link-empty h = sym (ap linked (read_at ∙ before-end s i h))
@@ -124,30 +122,18 @@ module _ (s : List ℕ) (short : length s ≤ max_text) where
 
 -- ── from the outermost `(` on ───────────────────────────────────────────────────────────────────
 
-module _ (s : List ℕ) (from : ℕ) (z : Scanned) (C : List ℤ) (K L : List ℕ) where
-  pub link-stopped : Scans s from z C K L → (r : Fault) → z.pass.fault ≡ Some r → Err r ≡ linked (parsed_from s from)
-  link-stopped (stops why p k) r e = let f : why ≡ r = cc in ap Err (sym f) ∙ sym (ap linked p)
-  link-stopped (ends w p k x) r e = absurd (none-some _ (sym k ∙ e))
+-- the outermost expression of the text s ends before place n
+module _ (s : List ℕ) (from n : ℕ) (d : Draft) (e : Ends s from n d) where
+  pub link-unskipped-after : (r : Fault) → tokens (drop n s) idle ≡ faults r ∷ [] → Err r ≡ linked (parsed_from s from)
+  link-unskipped-after r q = sym (ap linked (e.goes_on ∙ after-fault _ r e.expr q))
 
-  pub link-unskipped-after : Scans s from z C K L → z.pass.fault ≡ None → (r : Fault) → tokens (drop z.next s) idle ≡ faults r ∷ []
-      → Err r ≡ linked (parsed_from s from)
-  link-unskipped-after (stops why p k) e r q = absurd (none-some _ (sym e ∙ k))
-  link-unskipped-after (ends w p k x) e r q = sym (ap linked (p ∙ after-fault _ r w q))
+  module _ (j : ℕ) (k : SkipsTo (tokens (drop n s) idle) s n j) where
+    pub link-stray-after : j < length s → get_or s j 0 < 256 → MarkAt s j → Err StrayMark ≡ linked (parsed_from s from)
+    link-stray-after l b m =
+        sym (ap linked (e.goes_on ∙ ap (λ t. parse t (whole e.expr)) k.tokens-are ∙ after-stray s j l b m e.expr))
 
-  module _ (j : ℕ) (skipped-after : tokens (drop z.next s) idle ≡ tokens (drop j s) idle) where
-    pub link-stray-after : Scans s from z C K L → z.pass.fault ≡ None → j < length s → get_or s j 0 < 256 → MarkAt s j
-        → Err StrayMark ≡ linked (parsed_from s from)
-    link-stray-after (stops why p k) e l b m = absurd (none-some _ (sym e ∙ k))
-    link-stray-after (ends w p k r) e l b m = sym (ap linked (p ∙ ap (λ t. parse t (whole w)) skipped-after ∙ after-stray s j l b m w))
-
-    pub link-whole : Scans s from z C K L → z.pass.fault ≡ None → length s ≤ j → (cells : List ℤ) → cells ≡ linked_cells C K L z.pass.used
-        → Ok (record { used = z.pass.used; cells = cells }) ≡ linked (parsed_from s from)
-    link-whole (stops why p k) e l cells c = absurd (none-some _ (sym e ∙ k))
-    link-whole (ends w p k r) e l cells c =
-        (λ i. Ok (record { used = r.all i; cells = (c ∙ r.cells_are) i }))
-        ∙ sym (ap linked (p ∙ ap (λ t. parse t (whole w)) skipped-after ∙ after-end s j w l))
-
-  -- what the scan leaves for the second pass
-  pub scanned-ready : Scans s from z C K L → z.pass.fault ≡ None → Fillable z.pass.used L
-  scanned-ready (stops why p k) e = absurd (none-some _ (sym e ∙ k))
-  scanned-ready (ends w p k r) e = record { small = r.small; shallow = r.shallow }
+    pub link-whole : length s ≤ j → (f : Draft) → f ≡ settled d → Ok (record { used = f.used; cells = f.cells }) ≡ linked (parsed_from s from)
+    unfolding settled
+    link-whole l f h =
+        (λ i. Ok (record { used = (ap (λ (x : Draft). x.used) h ∙ e.ready.all) i; cells = (ap (λ (x : Draft). x.cells) h ∙ e.ready.cells_are) i }))
+        ∙ sym (ap linked (e.goes_on ∙ ap (λ t. parse t (whole e.expr)) k.tokens-are ∙ after-end s j e.expr l))

@@ -10,31 +10,26 @@ ghost use Rattle.linker.specs.Into.{links_into, linked_into};
 
 use assembler::exits::fill;
 use assembler::scan::scan;
+use emitter::pass::Draft;
 use language::{Fault, TEXT, Table};
-use lexer::{Skipped, skip, skip_fault};
+use lexer::skip;
 
 // From the place after the outermost `(` on.
 fn link_from(text: &[u8], from: usize) -> Result<Table, Fault>
     requires { length text.now ≤ max_text }
     ensures { result ≡ linked (parsed_from text.now from) }
 {
-    let mut cells = [0i32; Table::CELLS];
-    let mut kinds = [0u8; Table::CELLS];
-    let mut levels = [0u8; Table::CELLS];
-    let scanned = scan(text, from, &mut cells, &mut kinds, &mut levels);
-    let used = scanned.pass.used;
-    if let Some(fault) = scanned.pass.fault {
-        return Err(fault);
-    }
-    let after = skip(text, scanned.next);
-    let Skipped::To(end) = after else {
-        return Err(skip_fault(after));
-    };
+    let mut draft = Draft::fresh();
+    let next = scan(text, from, &mut draft)?;
+    let end = skip(text, next)?;
     if end < text.len() {
         return Err(Fault::StrayMark);
     }
-    fill(used, &mut cells, &kinds, &levels);
-    Ok(Table { used, cells })
+    fill(&mut draft);
+    Ok(Table {
+        used: draft.used,
+        cells: draft.cells,
+    })
 }
 
 // The code table of a source text, or the text's first fault.
@@ -44,17 +39,12 @@ pub fn link(text: &[u8]) -> Result<Table, Fault>
     if TEXT < text.len() {
         return Err(Fault::LongText);
     }
-    let before = skip(text, 0);
-    let Skipped::To(at) = before else {
-        return Err(skip_fault(before));
-    };
-    if text.len() <= at {
-        return Err(Fault::Unfinished);
+    let at = skip(text, 0)?;
+    match text.get(at) {
+        None => Err(Fault::Unfinished),
+        Some(b'(') => link_from(text, at + 1),
+        Some(_) => Err(Fault::StrayMark),
     }
-    if text[at] != b'(' {
-        return Err(Fault::StrayMark);
-    }
-    link_from(text, at + 1)
 }
 
 // ── for C ───────────────────────────────────────────────────────────────────────────────────────

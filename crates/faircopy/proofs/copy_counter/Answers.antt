@@ -3,12 +3,19 @@ use mathlib.Core.List.{[], ◌∷◌}
 use lib.ListN.{drop}
 use Rattle.language.specs.Bytes.{dollar_byte}
 use Rattle.faircopy.specs.Steps.{through_step, zeros}
-use Rattle.faircopy.proofs.StepsParts.{moves-after, moves-prefixed, moves-digits}
+use Rattle.faircopy.proofs.StepsParts.{moves-after, moves-prefixed, moves-digits, fits-prefixed, fits-digits}
 use Rattle.faircopy.proofs.copy_counter.Goals as goal
+
+pub copy_through-requires : goal.copy_through-requires
+copy_through-requires c =
+    let l = c.args.text.now in
+    let dollar = c.write_byte-after_dollar in
+    fits-digits dollar_byte l _ _ _ c.past_zeros-digits.ensures
+    (fits-prefixed c.args.out.now c.args.at (dollar_byte ∷ []) dollar.ensures (through_step dollar_byte (drop (zeros l) l)) c.requires)
 
 pub returns : goal.returns
 returns c =
     let l = c.args.text.now in
     moves-after (zeros l) l
     (moves-prefixed c.args.out.now c.args.at (dollar_byte ∷ []) c.write_byte-after_dollar.ensures (through_step dollar_byte (drop (zeros l) l)) c.requires
-    (moves-digits dollar_byte l c.past_zeros.ensures c.copy_through.ensures))
+    (moves-digits dollar_byte l c.past_zeros-digits.ensures c.copy_through.ensures))

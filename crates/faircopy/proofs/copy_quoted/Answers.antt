@@ -5,7 +5,7 @@ use native.Mathlib.Omega.{arith}
 use Rattle.language.specs.Bytes.{tick_byte}
 use Rattle.faircopy.specs.Steps.{through_step}
 use Rattle.faircopy.proofs.Written.{nothing_written}
-use Rattle.faircopy.proofs.StepsParts.{tail, tick-none, tick-constant, tick-print, moves-as, moves-tail, fits-as, moves-prefixed}
+use Rattle.faircopy.proofs.StepsParts.{tail, tick-none, tick-constant, tick-print, moves-as, moves-tail, fits-as, fits-prefixed, moves-prefixed}
 use Rattle.faircopy.proofs.copy_quoted.Goals as goal
 
 pub returns-in-empty : goal.returns-in-empty
@@ -18,6 +18,12 @@ copy_constant-requires c = fits-as c.args.out.now c.args.at (tick-constant c.arg
 
 pub returns-in-47 : goal.returns-in-47
 returns-in-47 c = moves-as (tick-constant c.args.text.now (omega arith) (omega arith)) (moves-tail c.args.text.now c.copy_constant.ensures)
+
+pub copy_through-requires : goal.copy_through-requires
+copy_through-requires c =
+    let l = c.args.text.now in
+    fits-prefixed c.args.out.now c.args.at (tick_byte ∷ tick_byte ∷ []) c.write_bytes-after_quotes.ensures (through_step tick_byte (tail l))
+    (fits-as c.args.out.now c.args.at (tick-print l (omega arith) (λ k. omega arith)) c.requires)
 
 pub returns-in-len1-up : goal.returns-in-len1-up
 returns-in-len1-up c =

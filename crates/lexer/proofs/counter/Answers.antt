@@ -1,29 +1,23 @@
 -- `counter` meets its contract.
-use Rattle.lexer.proofs.Lexing.{counter-zero, counter-some, answered, faulted, number-refused}
-use Rattle.lexer.specs.Lexing.{NumberIs}
+use Rattle.lexer.proofs.Lexing.{counter-zero, counter-some}
 use Rattle.language.specs.Tokens.{begins, counter_form, tokens}
 use lib.ListN.{drop}
 use native.Mathlib.Omega.{arith}
 use mathlib.Core.List.{◌∷◌}
-use mathlib.Core.Path.{refl, ap, ◌∙◌, subst}
+use mathlib.Core.Path.{refl, ap, ◌∙◌}
 use Rattle.lexer.proofs.counter.Goals as goal
-
-pub returns-in_default : goal.returns-in_default
-returns-in_default c =
-    let a = c.args in
-    number-refused counter_form _ _ _ (c.digits-n.ensures counter_form refl refl refl) c.in_default.is c.fault_of.ensures c.fault.ensures (omega arith)
 
 pub returns-then-value-eq0 : goal.returns-then-value-eq0
 returns-then-value-eq0 c =
-    let a = c.args in
-    let f = subst (NumberIs a.text.now counter_form a.from) c.in-Value.is (c.digits-n.ensures counter_form refl refl refl) in
-    faulted _ _ c.fault-then-value-eq0.ensures (ap (λ t. begins ∷ t) (f.tokens-are ∙ counter-zero _ _ c.if-value-eq0.true)) (omega arith) (omega arith)
+    let f = c.in_ok-value.ensures counter_form refl refl refl in
+    ap (λ t. begins ∷ t) (f.tokens-are ∙ counter-zero _ _ c.if-value-eq0.true)
 
 pub returns : goal.returns
 returns c =
-    let a = c.args in
-    let f = subst (NumberIs a.text.now counter_form a.from) c.in-Value.is (c.digits-n.ensures counter_form refl refl refl) in
-    let q = counter-some _ (λ n. tokens (drop c.in-Value.next a.text.now) n) c.if-value-eq0.false in
-    answered _ _ c.answer.ensures
-    (record { stands = record { mark = q.0; byte-is = q.1; here-is = ap (λ t. begins ∷ t) (f.tokens-are ∙ q.2) }; limit = omega (arith, f.below) })
-    f.after f.inside
+    let f = c.in_ok-value.ensures counter_form refl refl refl in
+    let q = counter-some _ (λ n. tokens (drop c.in_ok-value.field-0.next c.args.text.now) n) c.if-value-eq0.false in
+    record {
+      means = record { stands = record { mark = q.0; byte-is = q.1; here-is = ap (λ t. begins ∷ t) (f.tokens-are ∙ q.2) }; limit = omega (arith, f.below) };
+      after = f.after;
+      inside = f.inside;
+    }

@@ -1,47 +1,44 @@
 -- `skip` meets its contract.
-use Rattle.lexer.proofs.Lexing.{skips-from, inside_both, skipping-none}
-use Rattle.lexer.specs.Lexing.{Skips, MarkAt, Settles}
-use Rattle.lexer.specs.declared.Skipped.TheVariants as S
-use Rattle.language.specs.Tokens.{tokens, idle}
-use lib.ListN.{drop}
+use Rattle.lexer.proofs.LexingSorts.{the-quote, the-blank}
+use Rattle.lexer.proofs.Lexing.{tokens-first, skipping-comment}
+use Rattle.lexer.specs.Lexing.{SkipsOver}
+use Rattle.language.specs.Tokens.{first, faults}
+use Rattle.std.proofs.lemmas.Result.{err_from_is_err_and}
+use lib.ListN.{get_or}
 use native.Mathlib.Omega.{arith}
-use mathlib.Core.Path.{sym, ap, ◌∙◌, subst}
+use mathlib.Core.List.{[], ◌∷◌}
+use mathlib.Core.Path.{◌≡◌, sym, ap, ◌∙◌, subst}
 use Rattle.lexer.proofs.skip.Goals as goal
 
-pub loop-next-init : goal.loop-next-init
-loop-next-init c = skipping-none _ _
-
-pub returns-in_default : goal.returns-in_default
-returns-in_default c =
-    let a = c.args in
-    record {
-      skips = skips-from _ _ a.text.now a.from c.loop-next.at c.skip_one-r.result (sym c.loop-next.invariant.same) c.loop-next.invariant.after c.loop-next.invariant.inside c.skip_one-r.ensures.skips;
-      settles = subst (Settles a.text.now) (sym c.in_default.is) tt;
-    }
-
-pub returns-then-next-at : goal.returns-then-next-at
-returns-then-next-at c =
+pub returns-in_err-at-in-34 : goal.returns-in_err-at-in-34
+unfolding first
+returns-in_err-at-in-34 c =
     let s = c.args.text.now in
-    let f = subst (Skips (tokens (drop c.loop-next.at s) idle) s c.loop-next.at) c.in-To.is c.skip_one-r.ensures.skips in
-    record {
-      skips = skips-from _ _ s c.args.from c.loop-next.at (S.To c.in-To.next) (sym c.loop-next.invariant.same) c.loop-next.invariant.after c.loop-next.invariant.inside f;
-      settles = subst (MarkAt s) (sym c.if-next-at.true) (c.skip_one-r.ensures.stays (c.in-To.is ∙ ap S.To c.if-next-at.true));
-    }
+    let l = c.loop-at in
+    let r = err_from_is_err_and c.from_residual.result c.from_residual.ensures.1 in
+    let e : r.0 ≡ c.in_err-at-in-34.field-0.0 = r.2 in
+    subst (SkipsOver s c.args.from) (sym r.1)
+    (record {
+      skips = sym l.invariant.same ∙ tokens-first s l.at c.loop-at-test.true _ (the-quote (get_or s l.at 0) c.in-34.is) ∙ c.in_err-at-in-34.ensures ∙ ap (λ r. faults r ∷ []) (sym e);
+      settles = tt;
+    })
 
-pub loop-next-smaller : goal.loop-next-smaller
-loop-next-smaller c =
+pub loop-at-preserved-in-34 : goal.loop-at-preserved-in-34
+unfolding first
+loop-at-preserved-in-34 c =
     let s = c.args.text.now in
-    let f = subst (Skips (tokens (drop c.loop-next.at s) idle) s c.loop-next.at) c.in-To.is c.skip_one-r.ensures.skips in
-    let n = c.if-next-at.false in
-    let i = f.inside (omega (arith, f.after)) in
-    omega (arith, f.after)
+    let l = c.loop-at in
+    skipping-comment s c.args.from l.at c.in_ok-at-in-34.at l.invariant.after c.loop-at-test.true
+    (sym l.invariant.same ∙ tokens-first s l.at c.loop-at-test.true _ (the-quote (get_or s l.at 0) c.in-34.is))
+    c.in_ok-at-in-34.ensures
 
-pub loop-next-preserved : goal.loop-next-preserved
-loop-next-preserved c =
+pub loop-at-preserved : goal.loop-at-preserved
+unfolding first
+loop-at-preserved c =
     let s = c.args.text.now in
-    let f = subst (Skips (tokens (drop c.loop-next.at s) idle) s c.loop-next.at) c.in-To.is c.skip_one-r.ensures.skips in
+    let l = c.loop-at in
     record {
-      after = omega (arith, f.after, c.loop-next.invariant.after);
-      inside = λ k. inside_both s c.args.from c.loop-next.at c.in-To.next c.loop-next.invariant.after c.loop-next.invariant.inside f.after f.inside k;
-      same = sym f.tokens-are ∙ c.loop-next.invariant.same;
+      after = omega (arith, l.invariant.after);
+      inside = λ _. omega arith;
+      same = sym (tokens-first s l.at c.loop-at-test.true _ (the-blank (get_or s l.at 0) c.in-32.is)) ∙ l.invariant.same;
     }

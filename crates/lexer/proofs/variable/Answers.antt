@@ -1,38 +1,52 @@
 -- `variable` meets its contract.
 use Rattle.language.specs.Bytes.{digit_byte}
 use Rattle.language.proofs.Between.{between-low, between-high}
-use Rattle.lexer.proofs.Lexing.{tokens-end, access-zero, access-digit, access-bad, answered, faulted}
-use Rattle.language.specs.Tokens.{begins, after-access, finish}
-use lib.ListN.{get_or}
+use Rattle.lexer.proofs.Lexing.{tokens-end, access-zero, access-digit, access-bad}
+use Rattle.language.specs.Syntax.{variable}
+use Rattle.language.specs.Tokens.{begins, does, idle, tokens, after-access, finish}
+use lib.ListN.{get_or, drop}
+use Prim.Native.Nat.{◌+◌}
 use native.Mathlib.Omega.{arith}
 use mathlib.Core.List.{◌∷◌}
-use mathlib.Core.Path.{ap}
+use mathlib.Core.Path.{sym, ap, ◌∙◌}
 use Rattle.lexer.proofs.variable.Goals as goal
-use Rattle.lexer.proofs.variable.Goals.{in_default-via-then-d-lt48, in_default-via-else-d-lt48+else-d-lt58}
-
-pub returns-then-text-at : goal.returns-then-text-at
-unfolding finish
-returns-then-text-at c = λ a e. faulted _ _ c.fault.ensures (ap (λ t. begins ∷ t) (tokens-end c.args.text.now c.args.at (after-access a) c.if-text-at.true)) (omega arith) (omega arith)
-
-pub returns-in-48 : goal.returns-in-48
-returns-in-48 c =
-    λ a e. answered _ _ c.answer.ensures
-    (record { mark = a; byte-is = e; here-is = ap (λ t. begins ∷ t) (access-zero c.args.text.now c.args.at c.if-text-at.false a c.in-48.is) })
-    (omega arith) (omega arith)
-
-pub returns-in-49-to-57 : goal.returns-in-49-to-57
-returns-in-49-to-57 c =
-    λ a e. answered _ _ c.answer-in-49-to-57.ensures
-    (record { mark = a; byte-is = e; here-is = ap (λ t. begins ∷ t) (access-digit c.args.text.now c.args.at c.if-text-at.false a (omega arith) (omega arith)) })
-    (omega arith) (omega arith)
+use Rattle.lexer.proofs.variable.Goals.{in-48, in-49-to-57}
 
 pub returns-in_default : goal.returns-in_default
-returns-in_default c =
-    let b = get_or c.args.text.now c.args.at 0 in
-    λ a e. faulted _ _ c.fault-in_default.ensures
-    (ap (λ t. begins ∷ t) (access-bad c.args.text.now c.args.at c.if-text-at.false a
-    (elim c.in_default.branch [
-      | in_default-via-then-d-lt48 w ↦ between-low (digit_byte 0) (digit_byte 9) b (omega arith)
-      | in_default-via-else-d-lt48+else-d-lt58 w ↦ between-high (digit_byte 0) (digit_byte 9) b (omega arith)
-    ])))
-    (omega arith) (omega arith)
+unfolding finish
+returns-in_default c = λ a e. ap (λ t. begins ∷ t) (tokens-end c.args.text.now c.args.at (after-access a) c.in_default.ensures.lookup.3)
+
+pub returns-in_default-d : goal.returns-in_default-d
+returns-in_default-d c = λ a e.
+    let b = c.in-Some.ensures.lookup.3 in
+    ap (λ t. begins ∷ t)
+    (access-bad c.args.text.now c.args.at b.0 a (between-low (digit_byte 0) (digit_byte 9) (get_or c.args.text.now c.args.at 0) (omega (arith, b.1 0))))
+
+pub returns-in_default-d-2 : goal.returns-in_default-d-2
+returns-in_default-d-2 c = λ a e.
+    let b = c.in-Some.ensures.lookup.3 in
+    ap (λ t. begins ∷ t)
+    (access-bad c.args.text.now c.args.at b.0 a (between-high (digit_byte 0) (digit_byte 9) (get_or c.args.text.now c.args.at 0) (omega (arith, b.1 0))))
+
+pub returns : goal.returns
+returns c = λ a e.
+    let s = c.args.text.now in
+    let i = c.args.at in
+    let b = c.in-Some.ensures.lookup.3 in
+    record {
+      means =
+          record {
+            mark = a;
+            byte-is = e;
+            here-is =
+                ap (λ t. begins ∷ t)
+                (elim c.match-d.branch [
+                  | in-48 w ↦ rw w.digit-is (access-zero s i b.0 a (sym (b.1 0) ∙ w.in-48.is))
+                  | in-49-to-57 w ↦
+                      access-digit s i b.0 a (omega (arith, b.1 0)) (omega (arith, b.1 0))
+                      ∙ ap (λ d. does (variable a d) ∷ tokens (drop (i + 1) s) idle) (omega (arith, b.1 0, w.digit-is))
+                ]);
+          };
+      after = omega arith;
+      inside = omega (arith, b.0);
+    }

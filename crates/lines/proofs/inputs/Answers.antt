@@ -1,11 +1,8 @@
 -- `inputs` meets its contract. The loop's invariant: what the line asks for from place i on, after the inputs that stand, is what it asks for from the start.
-use mathlib.Core.Path.{subst}
-use Prim.Native.Nat.{◌+◌}
+use Rattle.std.proofs.Common.{◌≡◌, rules}
 use native.Mathlib.Omega.{arith}
 use mir.Syntax.{w32}
-use mir.Facts.{to_z-of_z}
-use Rattle.lines.specs.Lines.{sign}
-use Rattle.lines.specs.Commands.{InputIs}
+use mir.Val.{to_z, of_z}
 use Rattle.lines.proofs.Commands.{taking-none, taking-done, taking-full, taking-bad, taking-more}
 use Rattle.lines.proofs.inputs.Goals as goal
 
@@ -21,12 +18,8 @@ overflow_add-i c = omega arith
 pub read_input-requires : goal.read_input-requires
 read_input-requires c = omega arith
 
-pub returns-in_default : goal.returns-in_default
-returns-in_default c =
-    let l = c.loop-i in
-    let s = c.args in
-    let f = subst (InputIs sign s.line.now (l.i + 1)) c.in_default.is c.read_input.ensures in
-    taking-bad _ _ _ _ _ _ _ l.invariant (omega arith) (omega arith) f
+pub returns-in_err-v : goal.returns-in_err-v
+returns-in_err-v c = rw c.from_residual.ensures (taking-bad _ _ _ _ _ _ _ c.loop-i.invariant (omega arith) (omega arith) (c.in_err-v.ensures))
 
 pub bounds-values-count : goal.bounds-values-count
 bounds-values-count c = omega arith
@@ -36,18 +29,13 @@ overflow_add-count c = omega arith
 
 pub loop-i-smaller : goal.loop-i-smaller
 loop-i-smaller c =
-    let l = c.loop-i in
-    let s = c.args in
-    let f = subst (InputIs sign s.line.now (l.i + 1)) c.in-Value.is c.read_input.ensures in
+    let f = c.in_ok-v.ensures in
     omega (arith, f.further, f.inside)
 
 pub loop-i-preserved : goal.loop-i-preserved
 loop-i-preserved c =
-    let l = c.loop-i in
-    let s = c.args in
-    let f = subst (InputIs sign s.line.now (l.i + 1)) c.in-Value.is c.read_input.ensures in
-    let z = to_z-of_z {w = w32} {z = c.in-Value.v} (record { sfits = c.in-Value.known_told-1-own.given.0.1 }) in
-    rw z (taking-more _ _ _ _ _ _ _ l.invariant (omega arith) (omega arith) _ _ f)
+    let z : to_z w32 (of_z w32 c.in_ok-v.v) ≡ c.in_ok-v.v = search rules in
+    rw z (taking-more _ _ _ _ _ _ _ c.loop-i.invariant (omega arith) (omega arith) _ _ (c.in_ok-v.ensures))
 
 pub returns : goal.returns
 returns c = taking-done _ _ _ _ _ _ _ c.loop-i.invariant (omega arith)

@@ -1,37 +1,29 @@
 -- `link` meets its contract.
-use mathlib.Core.Path.{ap, ◌∙◌, subst}
+use mathlib.Core.Path.{sym, ◌∙◌}
 use native.Mathlib.Omega.{arith}
-use Rattle.std.specs.Prelude.{Err}
-use Rattle.language.specs.Tokens.{tokens, idle}
-use Rattle.lexer.specs.Lexing.{skip_fault, Skips, Settles}
 use Rattle.linker.proofs.LinkedText.{link-long, link-unskipped, link-empty, link-stray, link-inside}
 use Rattle.linker.proofs.link.Goals as goal
 
 pub returns-then-text-gt-TEXT : goal.returns-then-text-gt-TEXT
 returns-then-text-gt-TEXT c = link-long c.args.text.now c.if-text-gt-TEXT.true
 
-pub returns-in_default : goal.returns-in_default
-returns-in_default c =
-    let s = c.args.text.now in
-    let e = c.in_default.is in
-    ap Err (c.skip_fault.ensures ∙ ap skip_fault e)
-    ∙ link-unskipped s c.if-text-gt-TEXT.false c.in_default.field-0 (subst (Skips (tokens s idle) s 0) e c.skip-before.ensures.skips)
+pub returns-in_err-at : goal.returns-in_err-at
+returns-in_err-at c =
+    let e = link-unskipped c.args.text.now c.if-text-gt-TEXT.false c.in_err-at.field-0.0 c.in_err-at.ensures.skips in
+    grind (arith, e)
 
-pub returns-then-text-at : goal.returns-then-text-at
-returns-then-text-at c =
-    let s = c.args.text.now in
-    let f = subst (Skips (tokens s idle) s 0) c.in-To.is c.skip-before.ensures.skips in
-    link-empty s c.if-text-gt-TEXT.false _ f.tokens-are c.if-text-at.true
+pub returns-in-None : goal.returns-in-None
+returns-in-None c = link-empty c.args.text.now c.if-text-gt-TEXT.false c.in_ok-at.at c.in_ok-at.ensures.skips c.in-None.ensures.lookup.3
 
-pub returns-then-text-at-ne40 : goal.returns-then-text-at-ne40
-returns-then-text-at-ne40 c =
-    let s = c.args.text.now in
-    let f = subst (Skips (tokens s idle) s 0) c.in-To.is c.skip-before.ensures.skips in
-    link-stray s c.if-text-gt-TEXT.false c.in-To.at f.tokens-are c.if-text-at.false (omega (arith, c.type_inv.text c.in-To.at)) (subst (Settles s) c.in-To.is c.skip-before.ensures.settles) c.if-text-at-ne40.true
-
-pub returns : goal.returns
-returns c =
-    let s = c.args.text.now in
-    let f = subst (Skips (tokens s idle) s 0) c.in-To.is c.skip-before.ensures.skips in
+pub returns-in-Some-eq40 : goal.returns-in-Some-eq40
+returns-in-Some-eq40 c =
+    let b = c.in-Some-eq40.ensures.lookup.3 in
     c.link_from.ensures
-    ∙ link-inside s c.if-text-gt-TEXT.false c.in-To.at f.tokens-are c.if-text-at.false (omega (arith, c.type_inv.text c.in-To.at)) (subst (Settles s) c.in-To.is c.skip-before.ensures.settles) c.if-text-at-ne40.false
+    ∙ link-inside c.args.text.now c.if-text-gt-TEXT.false c.in_ok-at.at c.in_ok-at.ensures.skips b.0 (omega (arith, c.type_inv.text c.in_ok-at.at))
+    c.in_ok-at.ensures.settles (sym (b.1 0) ∙ c.in-Some-eq40.field-0-test)
+
+pub returns-in-Some : goal.returns-in-Some
+returns-in-Some c =
+    let b = c.in-Some.ensures.lookup.3 in
+    link-stray c.args.text.now c.if-text-gt-TEXT.false c.in_ok-at.at c.in_ok-at.ensures.skips b.0 (omega (arith, c.type_inv.text c.in_ok-at.at))
+    c.in_ok-at.ensures.settles (λ e. c.in-Some.field-0-test.1 (b.1 0 ∙ e))
