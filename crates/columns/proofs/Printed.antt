@@ -2,19 +2,20 @@
 use mathlib.Core.Path.{◌≡◌, refl, sym, ap, ◌∙◌}
 use mathlib.Core.Bool.{Bool, true, false, cond}
 use mathlib.Core.List.{List, [], ◌∷◌, ◌++◌}
-use Prim.Native.Nat.{ℕ, ◌+◌, ◌*◌, ◌-◌, ◌≤◌, ◌<◌}
+use Prim.Native.Nat.{ℕ, ◌+◌, ◌*◌, ◌≤◌, ◌<◌}
 use native.Mathlib.Omega.{arith}
-use lib.IntN.{ℤ, pos}
-use lib.ListN.{length, get_or, take, length-append, get_or-eq_default}
+use lib.IntN.{pos}
+use lib.ListN.{length, take, length-append}
 use lib.Seq.{paste, paste-zero, take-paste, take-length}
 use lib.Dec.{leb}
-use borrow.Author.Tests.{eq-eqb, ne_eqb, lt-leb}
+use borrow.Author.Tests.{lt-leb}
+use Rattle.std.specs.Int.{from_bool}
 use Rattle.language.specs.Decimals.{decimals, decimal, justified, padded}
 use Rattle.numerals.specs.Numerals.{Written, wrote, written, max_columns}
 use Rattle.numerals.proofs.Decimals.{justified-most, padded-most}
 use Rattle.numerals.proofs.Numerals.{written-room, written-no-room, written-two}
 use Rattle.columns.specs.declared.LineColumns.{LineColumns}
-use Rattle.columns.specs.Printed.{line_width, answer_width, truth_width, steps_width, height_width, top_width, bit, columns, most_bytes, paper, top}
+use Rattle.columns.specs.Printed.{line_width, answer_width, truth_width, steps_width, height_width, top_width, bit, columns, most_bytes, paper}
 use Rattle.language.specs.Bytes.{newline_byte}
 
 -- ── a line's columns ────────────────────────────────────────────────────────────────────────────
@@ -29,6 +30,11 @@ more : (o a b : List ℕ) (n k : ℕ) {m r : ℕ} {o₁ o₂ : List ℕ}
     → Begins o a n m o₁ → wrote r o₂ ≡ written o₁ m b → length b ≤ k → n + k ≤ length o → Begins o (a ++ b) (n + k) r o₂
 more o a b n k s q h l =
     record { same = written-two o 0 a b s.same q (omega (arith, s.size)); size = omega (arith, s.size, length-append a b) }
+
+-- truth as a number
+pub truth-bit : (t : Bool) → from_bool t ≡ bit t
+truth-bit true = refl
+truth-bit false = refl
 
 pub all-fields : (o : List ℕ) (f : LineColumns) {o₁ o₂ o₃ o₄ o₅ o₆ o₇ : List ℕ} {a b c d e g r t : ℕ} → length o ≡ most_bytes → t ≡ bit f.truth
     → wrote a o₁ ≡ written o 0 (justified line_width (decimals false f.line))
@@ -117,18 +123,3 @@ module _ (o : List ℕ) (at : ℕ) (b : List ℕ) where
     pub output-written : {o₁ o₂ : List ℕ} {m r : ℕ} → at + (length b + 1) ≤ length o
         → wrote m o₁ ≡ written o at b → wrote r o₂ ≡ written o₁ m (newline_byte ∷ []) → wrote r o₂ ≡ written o at (paper b)
     output-written h p q = written-two o at b (newline_byte ∷ []) p q (omega arith) ∙ ap (written o at) by-newline
-
--- ── the top ─────────────────────────────────────────────────────────────────────────────────────
-
-module _ (p : List ℤ) (h : ℕ) where
-  pub top-none : h ≡ 0 → pos 0 ≡ top p h
-  unfolding top
-  top-none e = sym (simp (eq-eqb h 0 e))
-
-  module _ (n : h ≡ 0 → ⊥) where
-    pub top-at : get_or p (h - 1) (pos 0) ≡ top p h
-    unfolding top
-    top-at = sym (simp (ne_eqb h 0 n))
-
-    pub top-past : length p < h → pos 0 ≡ top p h
-    top-past g = sym (get_or-eq_default p (pos 0) {n = h - 1} (omega arith)) ∙ top-at

@@ -3,7 +3,7 @@
 
 ghost use Rattle.std.specs.Prelude.{◌≡◌, length};
 ghost use Rattle.numerals.specs.Numerals.{wrote, written};
-ghost use Rattle.columns.specs.Printed.{most_bytes, bit, columns, paper, top};
+ghost use Rattle.columns.specs.Printed.{most_bytes, columns, paper, top};
 
 use numerals::{COLUMNS, write_bytes, write_number, write_value};
 
@@ -24,7 +24,7 @@ const TOP_WIDTH: usize = 11;
 const MOST_BYTES: usize = 6 * COLUMNS + 1;
 
 // A line's columns.
-#[derive(Clone, Copy)]
+#[derive(Clone, Copy, Debug, PartialEq, Eq)]
 pub struct LineColumns {
     pub line: u32,
     pub answer: u32,
@@ -34,25 +34,18 @@ pub struct LineColumns {
     pub top: i32,
 }
 
-fn one_if(truth: bool) -> u32
-    ensures { result ≡ bit truth }
-{
-    if truth { 1 } else { 0 }
-}
-
 // A line's columns at the start of a buffer that has room for them.
 fn write_fields(text: &mut [u8], f: LineColumns) -> usize
     requires { length text.old ≡ most_bytes }
     ensures { wrote result text.new ≡ written text.old 0 (columns f) }
 {
-    let top = f.top;
-    let a = write_number(text, 0, LINE_WIDTH, false, f.line);
-    let b = write_number(text, a, ANSWER_WIDTH, false, f.answer);
-    let c = write_number(text, b, TRUTH_WIDTH, false, one_if(f.truth));
-    let d = write_number(text, c, STEPS_WIDTH, false, f.steps);
-    let e = write_number(text, d, HEIGHT_WIDTH, false, f.height);
-    let g = write_value(text, e, TOP_WIDTH, top);
-    write_bytes(text, g, b"\n")
+    let at = write_number(text, 0, LINE_WIDTH, false, f.line);
+    let at = write_number(text, at, ANSWER_WIDTH, false, f.answer);
+    let at = write_number(text, at, TRUTH_WIDTH, false, u32::from(f.truth));
+    let at = write_number(text, at, STEPS_WIDTH, false, f.steps);
+    let at = write_number(text, at, HEIGHT_WIDTH, false, f.height);
+    let at = write_value(text, at, TOP_WIDTH, f.top);
+    write_bytes(text, at, b"\n")
 }
 
 // A line's columns at a place of a buffer: the place after them. Where they do not all fit, the buffer stays as it was, and the answer is the place itself.
@@ -68,28 +61,23 @@ pub fn write_columns(out: &mut [u8], at: usize, f: LineColumns) -> usize
 pub fn write_output(out: &mut [u8], at: usize, output: &[u8]) -> usize
     ensures { wrote result out.new ≡ written out.old at (paper output.now) }
 {
-    if output.len() == 0 {
+    if output.is_empty() {
         return at;
     }
-    if out.len() < at {
-        return at;
-    }
-    if out.len() - at <= output.len() {
-        return at;
+    if out.len().saturating_sub(at) <= output.len() {
+        return at; // no room for the newline too
     }
     let end = write_bytes(out, at, output);
     write_bytes(out, end, b"\n")
 }
 
 // "top (0 if none)"
+#[tactic(auto, unfolding(crate::specs::Printed::top))]
 pub fn top(list: &[i32], height: usize) -> i32
     ensures { result ≡ top list.now height }
 {
     if height == 0 {
         return 0;
     }
-    if list.len() < height {
-        return 0;
-    }
-    list[height - 1]
+    list.get(height - 1).copied().unwrap_or(0)
 }

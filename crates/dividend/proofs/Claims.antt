@@ -4,7 +4,8 @@ use mathlib.Core.Bool.{true≢false}
 use Prim.Native.Nat.{ℕ, ◌*◌, ◌-◌}
 use native.Mathlib.Omega.{arith}
 use Rattle.dividend.specs.declared.Payout.{Payout}
-use Rattle.dividend.specs.declared.Settlement.TheVariants.{Pays, BadPool, NoWinner}
+use Rattle.std.specs.Prelude.{Ok, Err}
+use Rattle.dividend.specs.declared.PoolError.TheVariants.{BadPool, NoWinner}
 use Rattle.dividend.specs.Dividend.{net_of, IsDividend, PaysOut}
 use Rattle.dividend.specs.Claims.{DividendExists, NoStakeNoDividend, DividendUnique, DividendReturned, AddsUp, BreakageBelow, WithinPool, SettlementExists, SettlementUnique}
 use Rattle.dividend.proofs.Laws.{rate-in, takeout-le, highest, highest-dividend, dividend-le, unique-dividend, step-above}
@@ -20,14 +21,14 @@ pub dividend-unique : DividendUnique
 dividend-unique net stakes d e p q = unique-dividend net stakes d e p q
 
 pub dividend-returned : DividendReturned
-dividend-returned pool rate stakes d (Pays p) (b, h, x) _ _ q =
+dividend-returned pool rate stakes d (Ok p) (b, h, x) _ _ q =
     record {
       payout = p;
       pays = refl;
       is = unique-dividend (net_of pool rate) stakes p.dividend d (subst (λ (n : ℕ). IsDividend n stakes p.dividend) x.net x.dividend) q;
     }
-dividend-returned pool rate stakes d BadPool x b _ q = absurd (true≢false (sym b ∙ x))
-dividend-returned pool rate stakes d NoWinner (b, z) _ h q = absurd (omega (arith, h, z))
+dividend-returned pool rate stakes d (Err BadPool) x b _ q = absurd (true≢false (sym b ∙ x))
+dividend-returned pool rate stakes d (Err NoWinner) (b, z) _ h q = absurd (omega (arith, h, z))
 
 pub adds-up : AddsUp
 adds-up pool rate stakes p (b, h, x) =
@@ -63,15 +64,15 @@ payout-unique pool rate stakes p q x y =
     λ i. record { takeout = t i; net = n i; dividend = d i; payments = m i; breakage = b i }
 
 pub settlement-unique : SettlementUnique
-settlement-unique pool rate stakes (Pays p) (Pays q) (_, _, x) (_, _, y) = ap Pays (payout-unique pool rate stakes p q x y)
-settlement-unique pool rate stakes (Pays p) BadPool (b, _, _) c = absurd (true≢false (sym b ∙ c))
-settlement-unique pool rate stakes (Pays p) NoWinner (_, h, _) (_, z) = absurd (omega (arith, h, z))
-settlement-unique pool rate stakes BadPool (Pays q) b (c, _, _) = absurd (true≢false (sym c ∙ b))
-settlement-unique pool rate stakes BadPool BadPool b c = refl
-settlement-unique pool rate stakes BadPool NoWinner b (c, _) = absurd (true≢false (sym c ∙ b))
-settlement-unique pool rate stakes NoWinner (Pays q) (_, z) (_, h, _) = absurd (omega (arith, h, z))
-settlement-unique pool rate stakes NoWinner BadPool (b, _) c = absurd (true≢false (sym b ∙ c))
-settlement-unique pool rate stakes NoWinner NoWinner b c = refl
+settlement-unique pool rate stakes (Ok p) (Ok q) (_, _, x) (_, _, y) = ap Ok (payout-unique pool rate stakes p q x y)
+settlement-unique pool rate stakes (Ok p) (Err BadPool) (b, _, _) c = absurd (true≢false (sym b ∙ c))
+settlement-unique pool rate stakes (Ok p) (Err NoWinner) (_, h, _) (_, z) = absurd (omega (arith, h, z))
+settlement-unique pool rate stakes (Err BadPool) (Ok q) b (c, _, _) = absurd (true≢false (sym c ∙ b))
+settlement-unique pool rate stakes (Err BadPool) (Err BadPool) b c = refl
+settlement-unique pool rate stakes (Err BadPool) (Err NoWinner) b (c, _) = absurd (true≢false (sym c ∙ b))
+settlement-unique pool rate stakes (Err NoWinner) (Ok q) (_, z) (_, h, _) = absurd (omega (arith, h, z))
+settlement-unique pool rate stakes (Err NoWinner) (Err BadPool) (b, _) c = absurd (true≢false (sym b ∙ c))
+settlement-unique pool rate stakes (Err NoWinner) (Err NoWinner) b c = refl
 
 pub settlement-exists : SettlementExists
 settlement-exists pool rate stakes = record { settlement = settled pool rate stakes; settles = settles pool rate stakes }

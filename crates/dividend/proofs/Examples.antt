@@ -1,8 +1,7 @@
 -- The examples hold, by computation.
 use mathlib.Core.Path.{◌≡◌, refl, subst}
 use mathlib.Core.List.{List, [], ◌∷◌, map}
-use Rattle.dividend.specs.declared.Settlement.{Settlement}
-use Rattle.dividend.specs.Dividend.{Settles}
+use Rattle.dividend.specs.Dividend.{Settlement, Settles}
 use Rattle.dividend.specs.Examples.{Race, races, Hold, RacesHold, AnswersHold, PayoutHolds}
 use Rattle.dividend.proofs.Settled.{settled, settles}
 

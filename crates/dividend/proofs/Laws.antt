@@ -5,10 +5,10 @@ use Prim.Native.Nat.{ℕ, ◌+◌, ◌*◌, ◌-◌, ◌/◌, ◌%◌, ◌≤◌
 use lib.Dec.{leb}
 use borrow.Author.Tests.{leb-true}
 use native.Mathlib.Omega.{arith}
+use Rattle.std.specs.Prelude.{Ok}
 use native.Mathlib.Nat.{mul_comm, mul_assoc, mul-le-mul_left, mul-le-mul_right, mul-mod_left, div-add-mod', div-mul-le_self, div-le_of_le-mul, le-div_iff_mul-le, add-mul, add-mod_right, le_antisymm, lt_of_not-le, le-mul_of_pos_right}
 use Rattle.language.proofs.Tests.{first-true, second-true}
 use Rattle.dividend.specs.Dividend.{max_pool, max_rate, max_stakes, in_bounds, whole_rate, takeout_of, dividend_step, Affords, IsDividend, Settles}
-use Rattle.dividend.specs.declared.Settlement.TheVariants.{Pays}
 
 -- a rate within its bounds
 pub rate-in : (pool rate stakes : ℕ) → in_bounds pool rate stakes ≡ true → rate ≤ max_rate
@@ -82,6 +82,6 @@ step-above net stakes d p = lt_of_not-le (λ h. absurd (more h))
 
 -- what is paid, of a takeout t and a dividend d
 pub pays : (pool rate stakes t d : ℕ) → in_bounds pool rate stakes ≡ true → 1 ≤ stakes → t ≡ takeout_of pool rate → IsDividend (pool - t) stakes d
-    → Settles pool rate stakes (Pays (record { takeout = t; net = pool - t; dividend = d; payments = d * stakes; breakage = pool - t - d * stakes }))
+    → Settles pool rate stakes (Ok (record { takeout = t; net = pool - t; dividend = d; payments = d * stakes; breakage = pool - t - d * stakes }))
 pays pool rate stakes t d b h e p =
     (b, h, record { takeout = e; net = ap (λ (x : ℕ). pool - x) e; dividend = p; payments = refl; breakage = refl })

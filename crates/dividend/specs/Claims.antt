@@ -1,9 +1,7 @@
 -- Document 02, U4: what is proved of every pool, each statement with the name of its proof.
-use Rattle.std.specs.Prelude.{◌≡◌, true, ℕ, ◌+◌, ◌*◌, ◌≤◌, ◌<◌}
+use Rattle.std.specs.Prelude.{◌≡◌, true, ℕ, ◌+◌, ◌*◌, ◌≤◌, ◌<◌, Ok}
 use Rattle.dividend.specs.declared.Payout.{Payout}
-use Rattle.dividend.specs.declared.Settlement.{Settlement}
-use Rattle.dividend.specs.declared.Settlement.TheVariants.{Pays}
-use Rattle.dividend.specs.Dividend.{in_bounds, net_of, dividend_step, IsDividend, Settles}
+use Rattle.dividend.specs.Dividend.{in_bounds, net_of, dividend_step, IsDividend, Settlement, Settles}
 
 -- ── the dividend ────────────────────────────────────────────────────────────────────────────────
 
@@ -27,7 +25,7 @@ DividendUnique = (net stakes d e : ℕ) → IsDividend net stakes d → IsDivide
 -- a settlement that pays this dividend
 pub record PaysDividend (s : Settlement) (dividend : ℕ) : Type 0 where
   pub payout : Payout
-  pub pays : s ≡ Pays payout
+  pub pays : s ≡ Ok payout
   pub is : payout.dividend ≡ dividend
 
 -- It is what is returned, wherever the call is not refused: `dividend::settle` promises `Settles`. proofs/Claims `dividend-returned`
@@ -40,16 +38,16 @@ DividendReturned =
 
 -- "takeout, payments and breakage add up to the pool". proofs/Claims `adds-up`
 abbrev pub AddsUp : Type 0
-AddsUp = (pool rate stakes : ℕ) (p : Payout) → Settles pool rate stakes (Pays p) → p.takeout + p.payments + p.breakage ≡ pool
+AddsUp = (pool rate stakes : ℕ) (p : Payout) → Settles pool rate stakes (Ok p) → p.takeout + p.payments + p.breakage ≡ pool
 
 -- The breakage is below 10 cents a stake. proofs/Claims `breakage-below`
 abbrev pub BreakageBelow : Type 0
-BreakageBelow = (pool rate stakes : ℕ) (p : Payout) → Settles pool rate stakes (Pays p) → p.breakage < dividend_step * stakes
+BreakageBelow = (pool rate stakes : ℕ) (p : Payout) → Settles pool rate stakes (Ok p) → p.breakage < dividend_step * stakes
 
 -- No figure is above the pool. proofs/Claims `within-pool`
 abbrev pub WithinPool : Type 0
 WithinPool =
-    (pool rate stakes : ℕ) (p : Payout) → Settles pool rate stakes (Pays p)
+    (pool rate stakes : ℕ) (p : Payout) → Settles pool rate stakes (Ok p)
     → (p.takeout ≤ pool) × (p.net ≤ pool) × (p.dividend ≤ pool) × (p.payments ≤ pool) × (p.breakage ≤ pool)
 
 -- ── the call ────────────────────────────────────────────────────────────────────────────────────

@@ -1,8 +1,8 @@
 -- Document 02, U4: paying on the pool.
-use Rattle.std.specs.Prelude.{◌≡◌, Bool, true, false, ◌&&◌, List, [], ◌∷◌, ℕ, ◌*◌, ◌-◌, ◌/◌, ◌%◌, ◌≤◌, leb}
+use Rattle.std.specs.Prelude.{◌≡◌, Bool, true, false, ◌&&◌, List, [], ◌∷◌, ℕ, ◌*◌, ◌-◌, ◌/◌, ◌%◌, ◌≤◌, leb, Result, Ok, Err}
 use Rattle.dividend.specs.declared.Payout.{Payout}
-use Rattle.dividend.specs.declared.Settlement.{Settlement}
-use Rattle.dividend.specs.declared.Settlement.TheVariants.{Pays, BadPool, NoWinner}
+use Rattle.dividend.specs.declared.PoolError.{PoolError}
+use Rattle.dividend.specs.declared.PoolError.TheVariants.{BadPool, NoWinner}
 
 -- ── bounds ──────────────────────────────────────────────────────────────────────────────────────
 
@@ -61,11 +61,15 @@ pub record PaysOut (pool rate stakes : ℕ) (p : Payout) : Type 0 where
 
 -- ── the call ────────────────────────────────────────────────────────────────────────────────────
 
+-- what comes of a pool: its figures, or why there are none
+abbrev pub Settlement : Type 0
+Settlement = Result Payout PoolError
+
 -- What may come of a pool. "Errors: 31 bad pool, a figure outside its bounds; 32 no winner, stakes are 0; in that order."
 abbrev pub Settles : ℕ → ℕ → ℕ → Settlement → Type 0
-Settles pool rate stakes BadPool = in_bounds pool rate stakes ≡ false
-Settles pool rate stakes NoWinner = (in_bounds pool rate stakes ≡ true) × (stakes ≡ 0)
-Settles pool rate stakes (Pays p) = (in_bounds pool rate stakes ≡ true) × (1 ≤ stakes) × PaysOut pool rate stakes p
+Settles pool rate stakes (Err BadPool) = in_bounds pool rate stakes ≡ false
+Settles pool rate stakes (Err NoWinner) = (in_bounds pool rate stakes ≡ true) × (stakes ≡ 0)
+Settles pool rate stakes (Ok p) = (in_bounds pool rate stakes ≡ true) × (1 ≤ stakes) × PaysOut pool rate stakes p
 
 -- "31 bad pool"
 abbrev pub bad_pool : ℕ
@@ -75,11 +79,15 @@ bad_pool = 31
 abbrev pub no_winner : ℕ
 no_winner = 32
 
+-- the number of a refusal
+abbrev pub pool_error_number : PoolError → ℕ
+pool_error_number BadPool = bad_pool
+pool_error_number NoWinner = no_winner
+
 -- the number of what comes of a pool
 abbrev pub settlement_number : Settlement → ℕ
-settlement_number (Pays p) = 0
-settlement_number BadPool = bad_pool
-settlement_number NoWinner = no_winner
+settlement_number (Ok p) = 0
+settlement_number (Err e) = pool_error_number e
 
 -- "A refusal of any call returns its number, every other figure 0"
 abbrev pub no_payout : Payout
@@ -87,9 +95,8 @@ no_payout = record { takeout = 0; net = 0; dividend = 0; payments = 0; breakage 
 
 -- the figures of what comes of a pool
 abbrev pub payout_of : Settlement → Payout
-payout_of (Pays p) = p
-payout_of BadPool = no_payout
-payout_of NoWinner = no_payout
+payout_of (Ok p) = p
+payout_of (Err e) = no_payout
 
 -- ── for C ───────────────────────────────────────────────────────────────────────────────────────
 

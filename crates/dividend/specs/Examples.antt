@@ -1,8 +1,7 @@
 -- Pools paid out and refused, every figure written out.
-use Rattle.std.specs.Prelude.{◌≡◌, List, [], ◌∷◌, ℕ}
-use Rattle.dividend.specs.declared.Settlement.{Settlement}
-use Rattle.dividend.specs.declared.Settlement.TheVariants.{Pays, BadPool, NoWinner}
-use Rattle.dividend.specs.Dividend.{Settles, settlement_number, payout_of, payout_figures}
+use Rattle.std.specs.Prelude.{◌≡◌, List, [], ◌∷◌, ℕ, Ok, Err}
+use Rattle.dividend.specs.declared.PoolError.TheVariants.{BadPool, NoWinner}
+use Rattle.dividend.specs.Dividend.{Settlement, Settles, settlement_number, payout_of, payout_figures}
 
 -- a pool, its takeout, the winning stakes, and what comes of it
 pub record Race : Type 0 where
@@ -17,7 +16,7 @@ race p r s x = record { pool = p; rate = r; stakes = s; settlement = x }
 
 -- takeout, net, dividend, payments and breakage
 abbrev pub paid : ℕ → ℕ → ℕ → ℕ → ℕ → Settlement
-paid t n d p b = Pays (record { takeout = t; net = n; dividend = d; payments = p; breakage = b })
+paid t n d p b = Ok (record { takeout = t; net = n; dividend = d; payments = p; breakage = b })
 
 -- Races as the manual and the page for C have them; each rest dropped, and none to drop; a dividend that just is not above the net, and one cent less; a net too small for its
 -- stakes; nothing taken out, and all; the ends of the bounds; each figure outside, stakes of 0, and both.
@@ -40,14 +39,14 @@ races =
     ∷ race 999999999 1000 999999999 (paid 999999999 0 0 0 0)
     ∷ race 999999999 0 999999999 (paid 0 999999999 0 0 999999999)
     ∷ race 999999999 0 99999999 (paid 0 999999999 10 999999990 9)
-    ∷ race 1000000000 0 1 BadPool
-    ∷ race 1000 1001 1 BadPool
-    ∷ race 1000 0 1000000000 BadPool
-    ∷ race 1000 0 0 NoWinner
-    ∷ race 999999999 1000 0 NoWinner
-    ∷ race 0 0 0 NoWinner
-    ∷ race 1000000000 0 0 BadPool
-    ∷ race 1000 1001 0 BadPool
+    ∷ race 1000000000 0 1 (Err BadPool)
+    ∷ race 1000 1001 1 (Err BadPool)
+    ∷ race 1000 0 1000000000 (Err BadPool)
+    ∷ race 1000 0 0 (Err NoWinner)
+    ∷ race 999999999 1000 0 (Err NoWinner)
+    ∷ race 0 0 0 (Err NoWinner)
+    ∷ race 1000000000 0 0 (Err BadPool)
+    ∷ race 1000 1001 0 (Err BadPool)
     ∷ []
 
 -- each of them
@@ -63,11 +62,11 @@ RacesHold = Hold races
 abbrev pub AnswersHold : Type 0
 AnswersHold =
     (settlement_number (paid 1 2 3 4 5) ≡ 0)
-    × (settlement_number BadPool ≡ 31)
-    × (settlement_number NoWinner ≡ 32)
-    × (Pays (payout_of (paid 1 2 3 4 5)) ≡ paid 1 2 3 4 5)
-    × (Pays (payout_of BadPool) ≡ paid 0 0 0 0 0)
-    × (Pays (payout_of NoWinner) ≡ paid 0 0 0 0 0)
+    × (settlement_number (Err BadPool) ≡ 31)
+    × (settlement_number (Err NoWinner) ≡ 32)
+    × (Ok (payout_of (paid 1 2 3 4 5)) ≡ paid 1 2 3 4 5)
+    × (Ok (payout_of (Err BadPool)) ≡ paid 0 0 0 0 0)
+    × (Ok (payout_of (Err NoWinner)) ≡ paid 0 0 0 0 0)
 
 -- takeout, net, dividend, payments, breakage. proofs/Examples `payout-holds`
 abbrev pub PayoutHolds : Type 0

@@ -112,33 +112,35 @@ two_steps w d text n k r h =
     let e : k - 2 ≡ k - 1 - 1 = omega arith in
     rw (a, b, c, e) (step w d _ (n / 10) (k - 1) (step w d text n k r (omega arith)) (omega arith))
 
+-- all digits but the last stand
+pub record Remaining (w : ℕ) (d text : List ℕ) (n k : ℕ) : Type 0 where
+  pub rendering : Rendering w d text n k
+  pub single : n < 10
+
+pub one-left : (w : ℕ) (d text : List ℕ) (n k : ℕ) → Rendering w d text n k → n ≤ 9 → Remaining w d text n k
+one-left w d text n k r h = record { rendering = r; single = omega arith }
+
+pub two-left : (w : ℕ) (d text : List ℕ) (n k : ℕ) → Rendering w d text n k → n ≤ 99 → 9 < n
+    → Remaining w d (set text k (digit_byte (n % 10))) (n / 10) (k - 1)
+two-left w d text n k r l h = record { rendering = step w d text n k r h; single = omega arith }
+
 -- the last digit
-pub last : (w : ℕ) (d text : List ℕ) (n k : ℕ) → Rendering w d text n k → n < 10 → Ends (set text k (digit_byte n)) k (digits 10 w ++ d)
-last w d text n k r h = go r.most r.low r.left
+pub last : (w : ℕ) (d text : List ℕ) (n k : ℕ) → Remaining w d text n k → Ends (set text k (digit_byte n)) k (digits 10 w ++ d)
+last w d text n k m = go r.most r.low r.left
   where
+    r : Rendering w d text n k
+    r = m.rendering
+
     go : (f : ℕ) → 1 ≤ f → digits f n ++ r.done ≡ digits 10 w ++ d → Ends (set text k (digit_byte n)) k (digits 10 w ++ d)
     go zero l t = absurd (omega arith)
     go (suc f) l t =
-        let e : digit_byte n ∷ r.done ≡ digits 10 w ++ d = ap (λ (b : List ℕ). b ++ r.done) (sym (few f n h)) ∙ t in
+        let e : digit_byte n ∷ r.done ≡ digits 10 w ++ d = ap (λ (b : List ℕ). b ++ r.done) (sym (few f n m.single)) ∙ t in
         rw (← e) (put text k (digit_byte n) r.done r.ends)
-
--- the last two
-pub last-two : (w : ℕ) (d text : List ℕ) (n k : ℕ) → Rendering w d text n k → 9 < n → n < 100
-    → Ends (set (set text k (digit_byte (n % 10))) (k - 1) (digit_byte (n / 10))) (k - 1) (digits 10 w ++ d)
-last-two w d text n k r h l = last w d _ (n / 10) (k - 1) (step w d text n k r h) (omega arith)
 
 -- a `-` before them
 pub minus-put : (text : List ℕ) (k : ℕ) (d : List ℕ) → 1 ≤ k → Ends text k d → Ends (set text (k - 1) minus_byte) (k - 1) (minus_byte ∷ d)
 minus-put text zero d h e = absurd (omega arith)
 minus-put text (suc k) d h e = let a : k ≡ suc k - 1 = omega arith in rw (← a) (put text k minus_byte d e)
-
--- the last two, and a `-` before them
-pub last-two-minus : (w : ℕ) (d text : List ℕ) (n k : ℕ) → Rendering w d text n k → 9 < n → n < 100
-    → Ends (set (set (set text k (digit_byte (n % 10))) (k - 1) (digit_byte (n / 10))) (k - 2) minus_byte) (k - 2) (minus_byte ∷ digits 10 w ++ d)
-last-two-minus w d text n k r h l =
-    let s = step w d text n k r h in
-    let e : k - 2 ≡ k - 1 - 1 = omega arith in
-    rw e (minus-put _ (k - 1) _ (omega (arith, s.low, s.room)) (last-two w d text n k r h l))
 
 -- the columns that the bytes take
 pub ends-length : (text : List ℕ) (k : ℕ) (d : List ℕ) → Ends text k d → length d ≡ max_columns - k

@@ -1,20 +1,17 @@
--- Signed numbers of 32 bits: a value by its sign and its digits' number, and its distance from 0.
+-- Signed numbers of 32 bits: a value by its sign and its digits' number.
 use mathlib.Core.Path.{◌≡◌, sym, ap, ◌∙◌}
 use mathlib.Core.Bool.{Bool, true, false}
-use Prim.Native.Nat.{ℕ, zero, suc, ◌≤◌, ◌<◌}
+use Prim.Native.Nat.{ℕ, zero, suc, ◌≤◌}
 use native.Mathlib.Omega.{arith}
-use lib.IntN.{ℤ, pos, neg_ℤ, nat_abs, ◌-ℤ◌}
-use lib.Signed.{lt_z}
-use mir.Syntax.{w32, w64}
+use lib.IntN.{pos, neg_ℤ, ◌-ℤ◌}
+use mir.Syntax.{w32}
 use mir.Val.{SFits, to_z, of_z}
 use mir.Facts.{to_z-of_z, to_z_pos}
-use borrow.Author.Tests.{le-leb, lt-leb}
+use borrow.Author.Tests.{le-leb}
 use Rattle.language.specs.Limits.{max_value}
 use Rattle.language.specs.Tokens.{signed}
 use Rattle.numerals.specs.Numerals.{value_of}
-use Rattle.language.proofs.Ints.{widened, widened_is, less, opposite-fits, below-zero, not-below}
-
--- ── a value by its sign ─────────────────────────────────────────────────────────────────────────
+use Rattle.language.proofs.Ints.{less}
 
 -- a number within the values, as a signed number
 pub small : (n : ℕ) → n ≤ max_value → to_z w32 n ≡ pos n
@@ -23,10 +20,6 @@ small n h = to_z_pos w32 (omega arith)
 negative_fits : (n : ℕ) → n ≤ max_value → SFits w32 (neg_ℤ (pos n))
 negative_fits zero h = record { sfits = omega arith }
 negative_fits (suc n) h = record { sfits = omega arith }
-
--- a number past the values
-pub value-far : (m : Bool) (n : ℕ) → max_value < n → pos 0 ≡ value_of m n
-value-far m n h = sym (rw (lt-leb n max_value h))
 
 -- A number within the values has its value.
 pub value-near : (m : Bool) (n : ℕ) → n ≤ max_value → value_of m n ≡ signed m n
@@ -43,14 +36,3 @@ minus_is n h = to_z-of_z (minus-fits n h) ∙ ap (λ z. pos 0 -ℤ z) (small n h
 -- itself is its value without
 pub plain-is : (n : ℕ) → n ≤ max_value → to_z w32 n ≡ value_of false n
 plain-is n h = small n h ∙ sym (value-near false n h)
-
--- ── a value's distance from 0 ───────────────────────────────────────────────────────────────────
-
-module _ (x : ℤ) (f : SFits w32 x) where
-  -- below 0
-  pub distance-below : lt_z (widened x) (pos 0) ≡ true → to_z w64 (of_z w64 (pos 0 -ℤ widened x)) ≡ pos (nat_abs x)
-  distance-below e = rw (widened_is x f) (to_z-of_z (opposite-fits x f) ∙ below-zero x (rw (widened_is x f) at e))
-
-  -- not below 0
-  pub distance-above : lt_z (widened x) (pos 0) ≡ false → widened x ≡ pos (nat_abs x)
-  distance-above e = widened_is x f ∙ not-below x (rw (widened_is x f) at e)

@@ -7,16 +7,16 @@ use native.Mathlib.Nat.{pow-suc, pow-le-pow_right}
 use native.Mathlib.Numerals.{add-one}
 use native.Mathlib.Omega.{arith}
 use lib.ListN.{length, get_or, take, drop, replicate, length-append, length-drop, length-replicate}
-use lib.Seq.{paste, drop-cons, drop-drop, take_all, take-length, take-paste, drop-paste, length-paste}
+use Rattle.std.specs.List.{slice_range}
+use lib.Seq.{get_or-take, get_or-drop, paste, drop-cons, drop-drop, take_all, take-length, take-paste, drop-paste, length-paste, length-take-le}
 use lib.Dec.{lit<, leb}
+use borrow.Rule.Slice.PartMut.{put_mid}
 use borrow.Author.Tests.{le-leb, lt-leb, leb-true}
 use Rattle.language.specs.Decimals.{max_digits, justified}
-use Rattle.language.specs.Bytes.{blank_byte, digit_byte, is_digit}
+use Rattle.language.specs.Bytes.{blank_byte, digit_byte}
 use Rattle.language.specs.Grammar.{Digits, digit_bytes, value_from}
-use Rattle.numerals.specs.declared.Numeral.{Numeral}
-use Rattle.numerals.specs.Numerals.{DigitsAt, Reads, Written, wrote, written, delivers, delivered, max_columns, Ends}
 use Rattle.language.proofs.Copies.{Pasting, pasting-done}
-use Rattle.numerals.proofs.Decimals.{ends-length}
+use Rattle.numerals.specs.Numerals.{DigitsAt, Written, wrote, written, delivers, delivered, Ends}
 
 -- ── read ────────────────────────────────────────────────────────────────────────────────────────
 
@@ -49,18 +49,6 @@ pub record Reading (s : List ℕ) (from most i n v : ℕ) : Type 0 where
   pub below : v < 10 ^ n
   pub inside : from ≤ length s → i ≤ length s
 
-pub reading-none : (s : List ℕ) (from most : ℕ) → Reading s from most from 0 0
-reading-none s from most =
-    record {
-      stand =
-          record { list = []; each = tt; counted = refl; valued = refl; bytes = let e : from ≡ from + 0 = omega arith in ap (λ j. drop j s) e };
-      place = omega arith;
-      few = omega arith;
-      short = omega arith;
-      below = omega arith;
-      inside = λ h. h;
-    }
-
 module _ (s : List ℕ) (from most i n v : ℕ) (r : Reading s from most i n v) where
   -- one digit more
   pub reading-more : i < length s → n < most → n < max_digits → digit_byte 0 ≤ get_or s i 0 → get_or s i 0 ≤ digit_byte 9
@@ -91,24 +79,10 @@ module _ (s : List ℕ) (from most i n v : ℕ) (r : Reading s from most i n v) 
         inside = λ _. omega arith;
       }
 
--- nothing more
-pub reading-done : (s : List ℕ) (from most i : ℕ) (q : Numeral) → Reading s from most i q.count q.value
-    → (q.count < most → q.count < max_digits → i < length s → is_digit (get_or s i 0) ≡ false) → Reads s from most q
-reading-done s from most i q r f =
-    record {
-      stand = r.stand;
-      few = r.few;
-      short = r.short;
-      below = r.below;
-      inside = λ h. let k = r.inside h in omega (arith, r.place);
-      whole = λ a b h. ap (λ j. is_digit (get_or s j 0)) (sym r.place) ∙ f a b (omega (arith, r.place));
-    }
-
-pub digit_low : (b : ℕ) → b < digit_byte 0 → is_digit b ≡ false
-digit_low b h = simp (lt-leb (digit_byte 0) b h)
-
-pub digit-high : (b : ℕ) → digit_byte 9 < b → is_digit b ≡ false
-digit-high b h = simp (le-leb (digit_byte 0) b (omega arith), lt-leb b (digit_byte 9) h)
+-- a byte of the rest of a text
+pub rest-at : (s r : List ℕ) (from i : ℕ) → r ≡ slice_range s from (length s) → length r + from ≡ length s → i < length r
+    → get_or r i 0 ≡ get_or s (from + i) 0
+rest-at s r from i e n h = ap (λ (t : List ℕ). get_or t i 0) e ∙ get_or-take (length s - from) (drop from s) i 0 (omega arith) ∙ get_or-drop from s i 0
 
 -- ── written ─────────────────────────────────────────────────────────────────────────────────────
 
@@ -131,11 +105,27 @@ module _ (short : ℕ) (o b : List ℕ) where
   pub delivered-short : length o < length b → delivers short 0 o ≡ delivered short o b
   delivered-short h = sym (rw (lt-leb (length b) (length o) h))
 
--- all bytes b are copied to a place of the buffer o
+-- the bytes b stand in the place of as many of the buffer
+pub placed : (o : List ℕ) (at m : ℕ) (b part : List ℕ) → m ≡ length b → part ≡ b → at + m ≤ length o
+    → wrote (at + m) (put_mid at (at + m - at) o part) ≡ written o at b
+placed o at m b part n e h =
+    let k : at + length b - at ≡ length b = omega arith in
+    let s : put_mid at (at + length b - at) o b ≡ paste o at b (length b) =
+    (λ i. take at o ++ (b ++ drop (k i) (drop at o)))
+    ∙ (λ i. take at o ++ (b ++ drop-drop (length b) at o i))
+    ∙ sym (append_assoc (take at o) b (drop (at + length b) o))
+    ∙ (λ i. take at o ++ sym (take-length b) i ++ drop (at + length b) o) in
+    rw (n, e) (ap (wrote (at + length b)) s ∙ written-room o at b (omega arith))
+
+-- all bytes b are copied to a place of the buffer
 pub pasted : (o : List ℕ) (at : ℕ) (b out : List ℕ) (i : ℕ) → Pasting o at b (length b) out i → length b ≤ i → wrote (at + i) out ≡ written o at b
 pasted o at b out i p h =
     let e : i ≡ length b = omega (arith, p.within) in
     (λ j. wrote (at + e j) (pasting-done o at b (length b) out i p h j)) ∙ written-room o at b p.room
+
+-- a place has as many bytes as fit
+pub place-length : (o : List ℕ) (at m : ℕ) → at + m ≤ length o → length (take (at + m - at) (drop at o)) ≡ m
+place-length o at m h = let k : at + m - at ≡ m = omega arith in rw k (length-take-le m (drop at o) (omega (arith, length-drop at o)))
 
 -- bytes pasted after others
 paste-two : (o : List ℕ) (at : ℕ) (a b : List ℕ) → at + length a ≤ length o
@@ -168,24 +158,26 @@ written-two o at a b {o₁} {o₂} {m} {r} p q h =
 
 -- ── a number in a width ─────────────────────────────────────────────────────────────────────────
 
-module _ (o : List ℕ) (at w b : ℕ) (text : List ℕ) (k : ℕ) (d : List ℕ) (e : Ends text k d) (f : b ≡ w - (max_columns - k)) where
+-- the part of the columns in which it stands
+pub ends-part : (text : List ℕ) (k : ℕ) (d : List ℕ) → Ends text k d → take (length text - k) (drop k text) ≡ d
+ends-part text k d e = take_all (length text - k) (drop k text) (omega (arith, length-drop k text)) ∙ e.rest
+
+module _ (o : List ℕ) (at w b : ℕ) (d : List ℕ) (f : b ≡ w - length d) where
   by-blanks : justified w d ≡ replicate b blank_byte ++ d
   unfolding justified
-  by-blanks = let g : w - length d ≡ b = omega (arith, ends-length text k d e) in ap (λ (n : ℕ). replicate n blank_byte ++ d) g
+  by-blanks = ap (λ (n : ℕ). replicate n blank_byte ++ d) (sym f)
 
-  by-columns : length (justified w d) ≡ b + (max_columns - k)
-  by-columns = ap length by-blanks ∙ simp (length-append, length-replicate) (omega (arith, ends-length text k d e))
+  by-columns : length (justified w d) ≡ b + length d
+  by-columns = ap length by-blanks ∙ simp (length-append, length-replicate)
 
   -- it does not fit
-  pub number-no-room : leb (at + (b + (max_columns - k))) (length o) ≡ false → wrote at o ≡ written o at (justified w d)
+  pub number-no-room : leb (at + (b + length d)) (length o) ≡ false → wrote at o ≡ written o at (justified w d)
   number-no-room h = written-no-room o at (justified w d) (ap (λ (n : ℕ). leb (at + n) (length o)) by-columns ∙ h)
 
-  -- the blanks, and then the part of the columns in which it stands
-  pub number-written : {o₁ o₂ : List ℕ} {m r : ℕ} → leb (at + (b + (max_columns - k))) (length o) ≡ true
-      → wrote m o₁ ≡ written o at (replicate b blank_byte) → wrote r o₂ ≡ written o₁ m (take (max_columns - k) (drop k text)) → wrote r o₂ ≡ written o at (justified w d)
+  -- the blanks, and then the bytes
+  pub number-written : {o₁ o₂ : List ℕ} {m r : ℕ} → leb (at + (b + length d)) (length o) ≡ true
+      → wrote m o₁ ≡ written o at (replicate b blank_byte) → wrote r o₂ ≡ written o₁ m d → wrote r o₂ ≡ written o at (justified w d)
   number-written {o₁} {o₂} {m} {r} h p q =
-      let g : at + (b + (max_columns - k)) ≤ length o = leb-true _ _ h in
-      let part : take (max_columns - k) (drop k text) ≡ d =
-      take_all (max_columns - k) (drop k text) (omega (arith, length-drop k text, e.columns)) ∙ e.rest in
-      let room : at + length (replicate b blank_byte) + length d ≤ length o = omega (arith, ends-length text k d e, length-replicate b blank_byte) in
-      rw by-blanks (written-two o at (replicate b blank_byte) d p (rw part at q) room)
+      let g : at + (b + length d) ≤ length o = leb-true _ _ h in
+      let room : at + length (replicate b blank_byte) + length d ≤ length o = omega (arith, length-replicate b blank_byte) in
+      rw by-blanks (written-two o at (replicate b blank_byte) d p q room)

@@ -1,11 +1,11 @@
 // Numbers to decimal bytes in a given width, and back; money with a point.
 #![tactic(auto)]
 
-ghost use Rattle.std.specs.Prelude.{◌≡◌, ◌++◌, ◌+◌, ◌-◌, ◌<◌, leb, nat_abs, drop, replicate};
+ghost use Rattle.std.specs.Prelude.{◌≡◌, ◌++◌, ◌+◌, ◌<◌, leb, drop};
 ghost use Rattle.language.specs.Decimals.{decimals, justified, padded};
 ghost use Rattle.language.specs.Money.{unit_cents, pointed};
 ghost use Rattle.language.specs.Effects.{column};
-ghost use Rattle.language.specs.Bytes.{blank_byte, digit_byte};
+ghost use Rattle.language.specs.Bytes.{digit_byte};
 ghost use Rattle.numerals.specs.Numerals.{Reads, value_of, point_column, Ends, Roomy, wrote, written};
 
 use language::{MOST_VALUE, WRITE_WIDTH};
@@ -25,7 +25,7 @@ const UNIT_CENTS: u32 = 100;
 const POINT: usize = COLUMNS - 3;
 
 // Digits that stand at a place of a text: how many, and their value.
-#[derive(Clone, Copy)]
+#[derive(Clone, Copy, Debug, PartialEq, Eq)]
 pub struct Numeral {
     pub count: usize,
     pub value: u32,
@@ -38,32 +38,22 @@ struct Column {
     start: usize,
 }
 
-fn wide(b: u8) -> u32
-    ensures { result ≡ b }
-{
-    b as u32
-}
-
 // The digits that stand at a place, at most `most` and at most 9.
 pub fn read_digits(text: &[u8], from: usize, most: usize) -> Numeral
     ensures { Reads text.now from most result }
 {
-    let mut at = from;
-    let mut count: usize = 0;
-    let mut value: u32 = 0;
-    while at < text.len() && count < most && count < DIGITS {
-        let b = text[at];
-        if b < b'0' {
-            return Numeral { count, value };
+    let mut read = Numeral { count: 0, value: 0 };
+    let Some(rest) = text.get(from..) else {
+        return read;
+    };
+    for b in rest {
+        if read.count == most || read.count == DIGITS || !(b'0'..=b'9').contains(b) {
+            return read;
         }
-        if b'9' < b {
-            return Numeral { count, value };
-        }
-        value = 10 * value + wide(b - b'0');
-        count += 1;
-        at += 1;
+        read.value = 10 * read.value + u32::from(*b - b'0');
+        read.count += 1;
     }
-    Numeral { count, value }
+    read
 }
 
 // A number, or its negative, within the values; 0 where it is past them.
@@ -74,20 +64,14 @@ pub fn value_of(minus: bool, number: u32) -> i32
         return 0;
     }
     let v = number as i32;
-    if minus {
-        return 0 - v;
-    }
-    v
+    if minus { -v } else { v }
 }
 
 // So many bytes fit at a place of a buffer of a size.
 fn fits(size: usize, at: usize, count: usize) -> bool
     ensures { result ≡ leb (at + count) size }
 {
-    if size < at {
-        return false;
-    }
-    count <= size - at
+    at <= size && count <= size - at
 }
 
 // The bytes at a place of a buffer: the place after them. Where they do not all fit, the buffer stays as it was, and the answer is the place itself.
@@ -95,29 +79,11 @@ pub fn write_bytes(out: &mut [u8], at: usize, bytes: &[u8]) -> usize
     ensures { wrote result out.new ≡ written out.old at bytes.now }
 {
     if !fits(out.len(), at, bytes.len()) {
-        return at;
+        return at; // and no `None`: several parts are written in a row, each from the place that the one before answers
     }
-    let mut i: usize = 0;
-    while i < bytes.len() {
-        out[at + i] = bytes[i];
-        i += 1;
-    }
-    at + i
-}
-
-// The same for blanks.
-fn write_blanks(out: &mut [u8], at: usize, count: usize) -> usize
-    ensures { wrote result out.new ≡ written out.old at (replicate count blank_byte) }
-{
-    if !fits(out.len(), at, count) {
-        return at;
-    }
-    let mut i: usize = 0;
-    while i < count {
-        out[at + i] = b' ';
-        i += 1;
-    }
-    at + i
+    let end = at + bytes.len();
+    out[at..end].copy_from_slice(bytes);
+    end
 }
 
 fn digit_byte(n: u32) -> u8
@@ -139,40 +105,20 @@ fn column_of(ending: [u8; COLUMNS], end: usize, minus: bool, number: u32) -> Col
         let pair = n % 100;
         text[start] = digit_byte(pair % 10);
         text[start - 1] = digit_byte(pair / 10);
-        n = n / 100;
-        start = start - 2;
+        n /= 100;
+        start -= 2;
     }
     if 9 < n {
         text[start] = digit_byte(n % 10);
-        text[start - 1] = digit_byte(n / 10);
-        if minus {
-            text[start - 2] = b'-'; // before two digits
-            return Column {
-                text,
-                start: start - 2,
-            };
-        }
-        return Column {
-            text,
-            start: start - 1,
-        };
+        n /= 10;
+        start -= 1;
     }
     text[start] = digit_byte(n);
     if minus {
-        text[start - 1] = b'-'; // before one
-        return Column {
-            text,
-            start: start - 1,
-        };
+        start -= 1;
+        text[start] = b'-';
     }
     Column { text, start }
-}
-
-// How many blanks stand before so many bytes in a width.
-fn blanks_before(width: usize, count: usize) -> usize
-    ensures { result ≡ width - count }
-{
-    if width < count { 0 } else { width - count }
 }
 
 // A number, after a `-` if it is said, right-justified in `width` columns, or in as many as it has, at a place of a buffer: the place after it. Where it
@@ -181,23 +127,14 @@ pub fn write_number(out: &mut [u8], at: usize, width: usize, minus: bool, number
     ensures { wrote result out.new ≡ written out.old at (justified width (decimals minus number)) }
 {
     let column = column_of([b' '; COLUMNS], COLUMNS, minus, number);
-    let text = column.text;
-    let start = column.start;
-    let count = COLUMNS - start;
-    let blanks = blanks_before(width, count);
-    if !fits(out.len(), at, blanks + count) {
+    let digits = &column.text[column.start..];
+    let blanks = width.saturating_sub(digits.len());
+    if !fits(out.len(), at, blanks + digits.len()) {
         return at;
     }
-    let first = write_blanks(out, at, blanks);
-    write_bytes(out, first, &text[start..])
-}
-
-// A value's distance from 0.
-fn distance(v: i32) -> u32
-    ensures { result ≡ nat_abs v }
-{
-    let w = v as i64;
-    if w < 0 { (0 - w) as u32 } else { w as u32 }
+    let first = at + blanks;
+    out[at..first].fill(b' ');
+    write_bytes(out, first, digits)
 }
 
 // The point and two digits of cents, at the end of the columns.
@@ -216,7 +153,7 @@ fn cents_column(cents: u32) -> [u8; COLUMNS]
 pub fn money_column(value: i32) -> [u8; WRITE_WIDTH]
     ensures { result ≡ column value }
 {
-    let n = distance(value);
+    let n = value.unsigned_abs();
     let ending = cents_column(n % UNIT_CENTS);
     let column = column_of(ending, POINT, value < 0, n / UNIT_CENTS);
     column.text
@@ -226,5 +163,5 @@ pub fn money_column(value: i32) -> [u8; WRITE_WIDTH]
 pub fn write_value(out: &mut [u8], at: usize, width: usize, value: i32) -> usize
     ensures { wrote result out.new ≡ written out.old at (padded width value) }
 {
-    write_number(out, at, width, value < 0, distance(value))
+    write_number(out, at, width, value < 0, value.unsigned_abs())
 }

@@ -17,84 +17,53 @@ use language::{
 pub fn is_letter(letter: u32) -> bool
     ensures { result ≡ is_letter letter }
 {
-    if letter < FIRST_LETTER {
-        return false;
-    }
-    letter <= LAST_LETTER
+    (FIRST_LETTER..=LAST_LETTER).contains(&letter)
 }
 
 // "bad mark, a mark or role neither of the two": of a mark this is not so.
+#[tactic(auto, unfolding(language::specs::Roles::is_permission))]
 pub fn is_permission(permission: u32) -> bool
     ensures { result ≡ is_permission permission }
 {
-    if permission == OPEN {
-        return true;
-    }
-    permission == STEWARDS
+    permission == OPEN || permission == STEWARDS
 }
 
 // Nor of a role.
+#[tactic(auto, unfolding(language::specs::Roles::is_role))]
 pub fn is_role(role: u32) -> bool
     ensures { result ≡ is_role role }
 {
-    if role == CASHIER {
-        return true;
-    }
-    role == STEWARD
+    role == CASHIER || role == STEWARD
 }
 
 // "Values lie in ±999,999,999."
+#[tactic(auto, unfolding(language::specs::Values::is_value))]
 pub fn is_value(v: i32) -> bool
     ensures { result ≡ is_value v }
 {
-    if v < LEAST_VALUE {
-        return false;
-    }
-    if MOST_VALUE < v {
-        return false;
-    }
-    true
+    (LEAST_VALUE..=MOST_VALUE).contains(&v)
 }
 
 // Every number is within the values.
 pub fn lawful(values: &[i32]) -> bool
     ensures { result ≡ lawful values.now }
 {
-    let mut i: usize = 0;
-    while i < values.len() {
-        if !is_value(values[i]) {
-            return false;
-        }
-        i += 1;
-    }
-    true
+    values.iter().all(|x| is_value(*x))
 }
 
 // A used-cell count is 0 or 3 to 250.
+#[tactic(auto, unfolding(language::specs::Tables::sound_count))]
 fn sound_count(n: usize) -> bool
     ensures { result ≡ sound_count n }
 {
-    if n == 0 {
-        return true;
-    }
-    if n < 3 {
-        return false;
-    }
-    n <= Table::CELLS
+    n == 0 || (3..=Table::CELLS).contains(&n)
 }
 
 // Every used-cell count is sound.
 fn sound_used(used: &[usize]) -> bool
     ensures { result ≡ sound_used used.now }
 {
-    let mut i: usize = 0;
-    while i < used.len() {
-        if !sound_count(used[i]) {
-            return false;
-        }
-        i += 1;
-    }
-    true
+    used.iter().all(|x| sound_count(*x))
 }
 
 // All counts are there: what the type of an array says, as a fact about its list. Nothing is done, and no copy is made.
@@ -108,14 +77,7 @@ pub fn all_there(used: [usize; LETTERS]) -> bool
 fn sound_permissions(permissions: &[u32]) -> bool
     ensures { result ≡ sound_permissions permissions.now }
 {
-    let mut i: usize = 0;
-    while i < permissions.len() {
-        if !is_permission(permissions[i]) {
-            return false;
-        }
-        i += 1;
-    }
-    true
+    permissions.iter().all(|x| is_permission(*x))
 }
 
 // "bad store: a used count neither 0 nor 3 to 250, or a variable outside the values", or "a mark with any other value", is not so.
@@ -126,14 +88,5 @@ pub fn sound_store(
 ) -> bool
     ensures { result ≡ sound_used used.now && sound_permissions permissions && lawful vars }
 {
-    let counts = *used;
-    all_there(counts);
-    if !sound_used(used) {
-        return false;
-    }
-    if sound_permissions(&permissions) {
-        lawful(&vars)
-    } else {
-        false
-    }
+    sound_used(used) && sound_permissions(&permissions) && lawful(&vars)
 }

@@ -7,4 +7,4 @@ use Rattle.dividend.proofs.takeout_of.Goals as goal
 pub overflow_mul-result : goal.overflow_mul-result
 overflow_mul-result c =
     let m = mul-le-mul c.ranges.pool.fits c.ranges.rate.fits in
-    record { fits = omega (arith, m) }
+    record { fits = rw (c.from.ensures, c.from-2.ensures) (omega (arith, m)) }

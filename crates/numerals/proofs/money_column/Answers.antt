@@ -13,5 +13,5 @@ column_of-column-requires c = roomy _ _ _ (omega arith) c.cents_column-ending.en
 pub returns : goal.returns
 returns c =
     let fits = to_z-of_z c.ranges.value in
-    money-whole c.args.value c.distance-n.result _ _ _ (rw fits at c.distance-n.ensures) c.cents_column-ending.ensures
+    money-whole c.args.value c.unsigned_abs-n.result _ _ _ (rw fits at c.unsigned_abs-n.ensures.value) c.cents_column-ending.ensures
     (rw fits at c.column_of-column.ensures)

@@ -1,52 +1,31 @@
--- `read_digits` meets its contract. The loop's invariant: the digits before the place are read.
+-- `read_digits` meets its contract.
+use Rattle.std.proofs.Common.{◌≡◌, ◌+◌, ◌≤◌, get_or}
+use Rattle.language.specs.Bytes.{digit_byte}
 use native.Mathlib.Omega.{arith}
-use borrow.Author.Tests.{ltb-true, ltb-false}
-use Rattle.numerals.proofs.Numerals.{reading-none, reading-more, reading-done, digit_low, digit-high, pow-up}
+use Rattle.numerals.proofs.Numerals.{reading-more, rest-at, pow-up}
 use Rattle.numerals.proofs.read_digits.Goals as goal
 
-pub loop-at-init : goal.loop-at-init
-loop-at-init c = reading-none _ _ _
-
-pub bounds-text-at : goal.bounds-text-at
-bounds-text-at c = omega arith
-
-pub returns-then-b-lt48 : goal.returns-then-b-lt48
-returns-then-b-lt48 c = reading-done _ _ _ _ _ c.loop-at.invariant (λ a b h. digit_low _ c.if-b-lt48.true)
-
-pub returns-then-b-gt57 : goal.returns-then-b-gt57
-returns-then-b-gt57 c = reading-done _ _ _ _ _ c.loop-at.invariant (λ a b h. digit-high _ c.if-b-gt57.true)
-
-pub overflow_mul-value : goal.overflow_mul-value
-overflow_mul-value c =
-    let l = c.loop-at in
-    let p = pow-up l.value l.count 8 (omega (arith, ltb-true)) l.invariant.below in
+pub overflow_mul-read : goal.overflow_mul-read
+overflow_mul-read c =
+    let l = c.loop-b in
+    let p = pow-up l.read.value l.read.count 8 (omega arith) l.invariant.below in
     record { fits = omega arith }
 
-pub overflow_add-value : goal.overflow_add-value
-overflow_add-value c =
-    let l = c.loop-at in
-    let p = pow-up l.value l.count 8 (omega (arith, ltb-true)) l.invariant.below in
-    record { fits = omega (arith, c.wide.ensures) }
+pub overflow_add-read : goal.overflow_add-read
+overflow_add-read c =
+    let l = c.loop-b in
+    let p = pow-up l.read.value l.read.count 8 (omega arith) l.invariant.below in
+    let h : c.from.result ≤ 9 = grind arith in
+    record { fits = omega arith }
 
-pub overflow_add-count : goal.overflow_add-count
-overflow_add-count c = omega arith
-
-pub overflow_add-at : goal.overflow_add-at
-overflow_add-at c = omega arith
-
-pub loop-at-smaller : goal.loop-at-smaller
-loop-at-smaller c = omega arith
-
-pub loop-at-preserved : goal.loop-at-preserved
-loop-at-preserved c =
-    let l = c.loop-at in
-    rw c.wide.ensures (reading-more _ _ _ _ _ _ l.invariant (omega arith) (omega (arith, ltb-true)) (omega (arith, ltb-true)) (omega arith) (omega arith))
-
-pub returns-else-count-lt-DIGITS : goal.returns-else-count-lt-DIGITS
-returns-else-count-lt-DIGITS c = reading-done _ _ _ _ _ c.loop-at.invariant (λ a b h. absurd (omega (arith, ltb-false)))
-
-pub returns-else-count-most : goal.returns-else-count-most
-returns-else-count-most c = reading-done _ _ _ _ _ c.loop-at.invariant (λ a b h. absurd (omega (arith, ltb-false)))
-
-pub returns-after-loop-at : goal.returns-after-loop-at
-returns-after-loop-at c = reading-done _ _ _ _ _ c.loop-at.invariant (λ a b h. absurd (omega arith))
+pub loop-b-preserved : goal.loop-b-preserved
+loop-b-preserved c =
+    let l = c.loop-b in
+    let rest = c.in-Some.rest.now in
+    let part = c.in-Some.ensures.lookup.0 in
+    let at : get_or rest l.b-index 0 ≡ get_or c.args.text.now (c.args.from + l.b-index) 0 = rest-at _ _ _ _ part.2 part.3 (omega arith) in
+    let low : digit_byte 0 ≤ get_or rest l.b-index 0 = grind arith in
+    let high : get_or rest l.b-index 0 ≤ digit_byte 9 = grind arith in
+    let more : c.args.from + (l.b-index + 1) ≡ c.args.from + l.b-index + 1 = omega arith in
+    rw (c.from.ensures, at, more)
+    (reading-more _ _ _ _ _ _ l.invariant (omega (arith, part.3)) (omega arith) (omega arith) (rw at at low) (rw at at high))

@@ -1,11 +1,7 @@
 -- `read_digits` meets its contract. The loop's invariant: the digits before the place are read.
-use Prim.Native.Nat.{◌-◌}
-use lib.ListN.{length}
+use Prim.Native.Nat.{◌+◌}
 use Rattle.numerals.proofs.Numerals.{Reading}
 use Rattle.numerals.proofs.read_digits.Given as goal
 
-abbrev pub invariant-loop-at : goal.invariant-loop-at
-invariant-loop-at l = Reading l.text l.from l.most l.at l.count l.value
-
-abbrev pub decreases-loop-at : goal.decreases-loop-at
-decreases-loop-at l = length l.text - l.at
+abbrev pub invariant-loop-b : goal.invariant-loop-b
+invariant-loop-b l = Reading l.text l.from l.most (l.from + l.b-index) l.read.count l.read.value

@@ -9,4 +9,4 @@ pub returns : goal.returns
 returns c =
     let fits = to_z-of_z c.ranges.value in
     (rw fits at c.write_number.ensures)
-    ∙ ap (written c.args.out.now c.args.at) (by-distance c.args.width c.args.value c.distance.result (rw fits at c.distance.ensures))
+    ∙ ap (written c.args.out.now c.args.at) (by-distance c.args.width c.args.value c.unsigned_abs.result (rw fits at c.unsigned_abs.ensures.value))

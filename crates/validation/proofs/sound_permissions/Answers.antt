@@ -1,31 +1,16 @@
--- `validation::sound_permissions` meets its contract: what is left of the list decides.
-use mathlib.Core.Path.{refl, sym, ◌∙◌}
-use native.Mathlib.Omega.{arith}
-use Rattle.validation.proofs.Values.{permissions-false, permissions-on, permissions-end}
+-- `validation::sound_permissions` meets its contract.
+use Rattle.std.proofs.Common.{refl, ◌∙◌, ◌&&◌, rules, tests}
+use Rattle.std.specs.List.{list_all}
+use Rattle.std.proofs.lemmas.Iterator.{YieldsList-from_slice}
+use Rattle.std.proofs.lemmas.Iterator.Search.{all_from_yields_List}
+use Rattle.std.proofs.lemmas.List.Recursion.{same_from_clauses}
+use Rattle.language.specs.Roles.{is_permission}
+use Rattle.language.specs.Tables.{sound_permissions}
 use Rattle.validation.proofs.sound_permissions.Goals as goal
 
-pub loop-i-init : goal.loop-i-init
-loop-i-init c = record { within = omega arith; rest = refl }
-
-pub offset_bounds-permissions-i : goal.offset_bounds-permissions-i
-offset_bounds-permissions-i c = omega arith
-
-pub bounds-permissions-i : goal.bounds-permissions-i
-bounds-permissions-i c = omega arith
-
-pub returns-then-not-is_permission : goal.returns-then-not-is_permission
-returns-then-not-is_permission c =
-    permissions-false _ c.loop-i.i c.loop-i.invariant (omega arith) (sym c.is_permission.ensures ∙ c.if-not-is_permission.true)
-
-pub overflow_add-i : goal.overflow_add-i
-overflow_add-i c = omega arith
-
-pub loop-i-smaller : goal.loop-i-smaller
-loop-i-smaller c = omega arith
-
-pub loop-i-preserved : goal.loop-i-preserved
-loop-i-preserved c =
-    (permissions-on _ c.loop-i.i c.loop-i.invariant (omega arith) (sym c.is_permission.ensures ∙ c.if-not-is_permission.false))
-
 pub returns : goal.returns
-returns c = permissions-end _ c.loop-i.i c.loop-i.invariant (omega arith)
+unfolding sound_permissions
+returns c =
+    let xs = c.args.permissions.now in
+    all_from_yields_List is_permission _ _ _ c.all.ensures.ran (YieldsList-from_slice xs cc) (λ x b q k. search (rules, tests))
+    ∙ same_from_clauses (list_all is_permission) sound_permissions (λ x b. is_permission x && b) refl (λ _ _. refl) (λ _ _. refl) xs
