@@ -16,7 +16,11 @@ use Rattle.lexer.specs.Lexing.{Means}
 use Rattle.emitter.specs.Drafts.{level_places, Draft, draft, Inside}
 use Rattle.assembler.specs.Taking.{taken, Fine}
 use Rattle.assembler.specs.Scanning.{parsed_from, Scans, stops, ends}
-use Rattle.language.proofs.Answers.{fault-not-zero}
+use Rattle.std.specs.Prelude.{Option, None, Some, is_some}
+use Rattle.language.specs.declared.Fault.{Fault}
+use Rattle.std.proofs.lemmas.Option.{none-some}
+use mathlib.Core.Bool.{true, false}
+use Rattle.std.proofs.lemmas.Bool.{true≢false, false≢true}
 use Rattle.assembler.proofs.ScanningCells.{head_cell}
 use Rattle.assembler.proofs.ScanningSimulation as Simulation
 use Rattle.assembler.proofs.ScanningSimulation.{Image, Outcome, goes, closes-all, one_token}
@@ -25,7 +29,7 @@ use Rattle.assembler.proofs.ScanningSimulation.{Image, Outcome, goes, closes-all
 
 -- the pass after the outermost `(`: cell 1 is laid
 abbrev pub start : Pass
-start = record { fault = 0; level = 1; used = 1; counters = 0 }
+start = record { fault = None; level = 1; used = 1; counters = 0 }
 
 abbrev start_draft : Draft
 start_draft =
@@ -54,9 +58,9 @@ starts-out s from = goes (λ e. e) [] code_start 0 refl start-image
 
 -- ── one turn ────────────────────────────────────────────────────────────────────────────────────
 
-pub bounds : (P : Reading) (l : List Token) (p : Pass) (c : List ℤ) (k v : List ℕ) (f : List ℤ) → Outcome P l (draft p c k v f) → p.fault ≡ 0
+pub bounds : (P : Reading) (l : List Token) (p : Pass) (c : List ℤ) (k v : List ℕ) (f : List ℤ) → Outcome P l (draft p c k v f) → p.fault ≡ None
     → (p.level ≡ 0 → ⊥) → Inside p
-bounds P l p c k v f (Simulation.stops why q i) e n = absurd (fault-not-zero why (sym i ∙ e))
+bounds P l p c k v f (Simulation.stops why q i) e n = absurd (none-some why (sym e ∙ i))
 bounds P l p c k v f (goes g st q i r im) e n =
     record {
       cells_fit = omega (arith, im.cells_are.used-is, im.cells_are.room);
@@ -65,9 +69,9 @@ bounds P l p c k v f (goes g st q i r im) e n =
     }
 bounds P l p c k v f (closes-all w q i z r) e n = absurd (n z)
 
-pub next-outcome : (s : List ℕ) (l l' : List Token) (t : Lexer.Token) (P : Reading) (d : Draft) → Outcome P l d → d.fault ≡ 0 → (d.level ≡ 0 → ⊥) → Means s t l l'
+pub next-outcome : (s : List ℕ) (l l' : List Token) (t : Lexer.Token) (P : Reading) (d : Draft) → Outcome P l d → d.fault ≡ None → (d.level ≡ 0 → ⊥) → Means s t l l'
     → Outcome P l' (taken s t d)
-next-outcome s l l' t P d (Simulation.stops why p k) e n m = absurd (fault-not-zero why (sym k ∙ e))
+next-outcome s l l' t P d (Simulation.stops why p k) e n m = absurd (none-some why (sym e ∙ k))
 next-outcome s l l' t P d (goes f st q c p im) e n m = subst (λ P. Outcome P l' (taken s t d)) (sym p) (one_token s l' d f st q c im t l m)
 next-outcome s l l' t P d (closes-all w p k v r) e n m = absurd (n v)
 
@@ -88,20 +92,28 @@ fine s (T.Constant v) l l' m = tt
 fine s (T.Print a n) l l' m = m.part
 
 -- a token that the pass goes on after is not the end
-pub not_end : (s : List ℕ) (t : Lexer.Token) (d : Draft) → (taken s t d).fault ≡ 0 → t ≡ T.End → ⊥
+pub not_end : (s : List ℕ) (t : Lexer.Token) (d : Draft) → (taken s t d).fault ≡ None → t ≡ T.End → ⊥
 unfolding taken
-not_end s t d e q = let z = sym (ap (λ t. (taken s t d).fault) q) ∙ e in omega arith
+not_end s t d e q = none-some _ (sym e ∙ ap (λ t. (taken s t d).fault) q)
+
+pub some-refused : (o : Option Fault) → is_some o ≡ true → o ≡ None → ⊥
+some-refused None e n = false≢true e
+some-refused (Some why) e n = none-some why (sym n)
+
+pub none-refused : (o : Option Fault) → is_some o ≡ false → o ≡ None
+none-refused None e = refl
+none-refused (Some why) e = absurd (true≢false e)
 
 -- ── the finish ──────────────────────────────────────────────────────────────────────────────────
 
 module _ (s : List ℕ) (from next : ℕ) (p : Pass) (C : List ℤ) (K L : List ℕ) (S : List ℤ) where
-  pub scans-refused : Outcome (parsed_from s from) (tokens (drop next s) idle) (draft p C K L S) → (p.fault ≡ 0 → ⊥) → Scans s from (record { pass = p; next = next }) C K L
+  pub scans-refused : Outcome (parsed_from s from) (tokens (drop next s) idle) (draft p C K L S) → (p.fault ≡ None → ⊥) → Scans s from (record { pass = p; next = next }) C K L
   scans-refused (Simulation.stops why q k) n = stops why q k
   scans-refused (goes f st x c q im) n = absurd (n im.fault-is)
   scans-refused (closes-all w q k v r) n = absurd (n k)
 
-  pub scans-whole : Outcome (parsed_from s from) (tokens (drop next s) idle) (draft p C K L S) → p.fault ≡ 0 → p.level ≡ 0
+  pub scans-whole : Outcome (parsed_from s from) (tokens (drop next s) idle) (draft p C K L S) → p.fault ≡ None → p.level ≡ 0
       → Scans s from (record { pass = p; next = next }) C K L
-  scans-whole (Simulation.stops why q k) e v = absurd (fault-not-zero why (sym k ∙ e))
+  scans-whole (Simulation.stops why q k) e v = absurd (none-some why (sym e ∙ k))
   scans-whole (goes f st x c q im) e v = absurd (omega (arith, im.level-is))
   scans-whole (closes-all w q k z r) e v = ends w q k r

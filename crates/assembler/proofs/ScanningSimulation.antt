@@ -11,7 +11,7 @@ use lib.Seq.{get_or-set_same, get_or-set_other}
 use lib.Dec.{leb}
 use borrow.Author.Tests.{leb-true, leb-false, le-leb, lt-leb, lt-ltb, le-ltb}
 use Rattle.language.specs.Limits.{max_cells, max_levels, max_counters}
-use Rattle.language.specs.Answers.{fault_number}
+use Rattle.std.specs.Prelude.{Some, None}
 use Rattle.language.specs.declared.Fault.{Fault}
 use Rattle.language.specs.declared.Fault.TheVariants.{Deep, Unfinished, TableFull, ManyCounters}
 use Rattle.language.specs.Syntax.{Operation, operator, variable, constant, print}
@@ -47,7 +47,7 @@ Around (g ∷ st) h R F =
 
 -- The draft d is the image of the parser's place inside the expression f, with st around it, cell q next and c counters so far.
 pub record Image (d : Draft) (f : Expr → Expr) (st : List (Expr → Expr)) (q c : ℕ) : Type 0 where
-  pub fault-is : d.fault ≡ 0
+  pub fault-is : d.fault ≡ None
   pub level-is : d.level ≡ suc (length st)
   pub counters-are : d.counters ≡ c
   pub deep : length st ≤ max_levels - 1
@@ -63,9 +63,9 @@ pub record Image (d : Draft) (f : Expr → Expr) (st : List (Expr → Expr)) (q 
 
 -- After a token: the text is refused, or the parser goes on over l inside the expression, or after it.
 pub data Outcome (P : Reading) (l : List Token) (d : Draft) : Type 0 where
-  stops : (why : Fault) → P ≡ refused why → d.fault ≡ fault_number why → Outcome P l d
+  stops : (why : Fault) → P ≡ refused why → d.fault ≡ Some why → Outcome P l d
   goes : (f : Expr → Expr) (st : List (Expr → Expr)) (q c : ℕ) → P ≡ parse l (inside f st q c) → Image d f st q c → Outcome P l d
-  closes-all : (w : Expr) → P ≡ parse l (whole w) → d.fault ≡ 0 → d.level ≡ 0 → Ready w d.used d.cells d.kinds d.levels → Outcome P l d
+  closes-all : (w : Expr) → P ≡ parse l (whole w) → d.fault ≡ None → d.level ≡ 0 → Ready w d.used d.cells d.kinds d.levels → Outcome P l d
 
 -- ── positions ───────────────────────────────────────────────────────────────────────────────────
 

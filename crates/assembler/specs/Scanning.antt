@@ -1,7 +1,6 @@
 -- What the first pass over a whole expression leaves for the second.
-use Rattle.std.specs.Prelude.{◌≡◌, List, [], ℕ, ◌≤◌, ℤ, pos, length, get_or, drop, replicate}
+use Rattle.std.specs.Prelude.{◌≡◌, Some, None, List, [], ℕ, ◌≤◌, ℤ, pos, length, get_or, drop, replicate}
 use Rattle.language.specs.Limits.{max_text, max_levels, max_cells}
-use Rattle.language.specs.Answers.{fault_number}
 use Rattle.language.specs.declared.Fault.{Fault}
 use Rattle.language.specs.Syntax.{Expr}
 use Rattle.language.specs.Tokens.{idle, tokens}
@@ -30,6 +29,6 @@ parsed_from s i = parse (tokens (drop i s) idle) (inside (λ e. e) [] code_start
 
 -- the text is refused, or the outermost expression is whole and the parser goes on after it
 pub data Scans (s : List ℕ) (from : ℕ) (r : Scanned) (cells : List ℤ) (kinds levels : List ℕ) : Type 0 where
-  stops : (why : Fault) → parsed_from s from ≡ refused why → r.pass.fault ≡ fault_number why → Scans s from r cells kinds levels
-  ends : (w : Expr) → parsed_from s from ≡ parse (tokens (drop r.next s) idle) (whole w) → r.pass.fault ≡ 0
+  stops : (why : Fault) → parsed_from s from ≡ refused why → r.pass.fault ≡ Some why → Scans s from r cells kinds levels
+  ends : (w : Expr) → parsed_from s from ≡ parse (tokens (drop r.next s) idle) (whole w) → r.pass.fault ≡ None
       → Ready w r.pass.used cells kinds levels → Scans s from r cells kinds levels

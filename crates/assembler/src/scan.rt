@@ -68,7 +68,7 @@ pub fn scan(
         let t = r.token;
         p = take(p, text, t, cells, kinds, levels, &mut starts);
         at = r.next;
-        if p.fault != 0 {
+        if p.fault.is_some() {
             return Scanned { pass: p, next: at };
         }
     }

@@ -1,8 +1,7 @@
 -- The first pass: the cells of a text with their false exits and ends open, one mark after another.
-use Rattle.std.specs.Prelude.{◌≡◌, cond, List, [], ◌∷◌, ℕ, ◌+◌, ◌-◌, ◌≤◌, ◌<◌, ℤ, pos, length, get_or, set, leb, ltb, eqb}
+use Rattle.std.specs.Prelude.{◌≡◌, Option, Some, cond, List, [], ◌∷◌, ℕ, ◌+◌, ◌-◌, ◌≤◌, ◌<◌, ℤ, pos, length, get_or, set, leb, ltb, eqb}
 use Rattle.language.specs.Limits.{max_text, max_levels, max_cells, max_counters, max_limit}
 use Rattle.language.specs.Bytes.{close_byte, colon_byte, semicolon_byte}
-use Rattle.language.specs.Answers.{fault_number}
 use Rattle.language.specs.Syntax.{counter_code, print_code}
 use Rattle.language.specs.Layout.{opcode}
 use Rattle.language.specs.declared.Fault.{Fault}
@@ -46,10 +45,10 @@ level_places = max_levels + 2
 
 -- ── drafts ──────────────────────────────────────────────────────────────────────────────────────
 
--- What the code holds: the number of the refusal or 0, the nesting level, the used cells, the counters so far, and for each cell its value, what is open
+-- What the code holds: the fault of a text that is refused, the nesting level, the used cells, the counters so far, and for each cell its value, what is open
 -- in it and its level; and for each level the first cell of its expression.
 pub record Draft : Type 0 where
-  pub fault : ℕ
+  pub fault : Option Fault
   pub level : ℕ
   pub used : ℕ
   pub counters : ℕ
@@ -69,7 +68,7 @@ over d p = draft p d.cells d.kinds d.levels d.starts
 
 -- a draft that is refused
 abbrev pub refuse : Draft → Fault → Draft
-refuse d r = over d (record { fault = fault_number r; level = d.level; used = d.used; counters = d.counters })
+refuse d r = over d (record { fault = Some r; level = d.level; used = d.used; counters = d.counters })
 
 -- one more cell, with c k l for the arrays
 abbrev pub more : Draft → List ℤ → List ℕ → List ℕ → Draft
@@ -191,7 +190,7 @@ ByStarts step p s r s' = (c : List ℤ) (k l : List ℕ) → draft r c k l s' �
 
 -- the code refuses, and all else of p stands
 pub record Refused (p : Pass) (why : Fault) (r : Pass) : Type 0 where
-  pub fault-is : r.fault ≡ fault_number why
+  pub fault-is : r.fault ≡ Some why
   pub level-kept : r.level ≡ p.level
   pub used-kept : r.used ≡ p.used
   pub counters-kept : r.counters ≡ p.counters

@@ -1,5 +1,5 @@
 // The first pass, left to right: every limit, all that a cell can know, and what is open in the others.
-ghost use Rattle.std.specs.Prelude.{◌≡◌, [], ◌∷◌, ◌<◌, drop, take};
+ghost use Rattle.std.specs.Prelude.{◌≡◌, [], ◌∷◌, ◌<◌, None, drop, take};
 ghost use Rattle.language.specs.Limits.{max_cells};
 ghost use Rattle.language.specs.Layout.{opcode};
 ghost use Rattle.emitter.specs.Drafts.{known, semi_at, fit, opened, closed, coloned, operand_cells, test_cells, counted, print_cells};
@@ -25,10 +25,10 @@ const COUNTER_CODE: u8 = b'$';
 // A place for the level around the outermost expression, for each level, and for one more.
 pub const LEVEL_PLACES: usize = Table::LEVELS + 2;
 
-// The number of the refusal or 0, the nesting level, the used cells and the counters so far.
+// The fault of a text that is refused, the nesting level, the used cells and the counters so far.
 #[derive(Clone, Copy)]
 pub struct Pass {
-    pub fault: u32,
+    pub fault: Option<Fault>,
     pub level: usize,
     pub used: usize,
     pub counters: usize,
@@ -37,10 +37,10 @@ pub struct Pass {
 impl Pass {
     // Inside the outermost `(`, after cell 1.
     pub fn fresh() -> Pass
-        ensures { result ≡ record { fault = 0; level = 1; used = 1; counters = 0 } }
+        ensures { result ≡ record { fault = None; level = 1; used = 1; counters = 0 } }
     {
         Pass {
-            fault: 0,
+            fault: None,
             level: 1,
             used: 1,
             counters: 0,
@@ -52,7 +52,7 @@ impl Pass {
         ensures { Refused self why result }
     {
         let mut p = self;
-        p.fault = why.number();
+        p.fault = Some(why);
         p
     }
 

@@ -1,6 +1,7 @@
 -- The code's store and answers as the book's definitions have them, its steps, and what holds of every session of it.
 use Rattle.std.specs.Prelude.{◌≡◌, ℕ, List, [], ◌∷◌, ℤ}
 use Rattle.book.specs.Calls.{Call}
+use Rattle.book.specs.Refusals.{answer_number}
 use Rattle.book.specs.Replies.{Answered}
 use Rattle.book.specs.Store as Definition
 use Rattle.book.specs.Store.{fresh_store}
@@ -18,7 +19,7 @@ stored s = Definition.store_of s.cells s.used s.permissions s.vars
 
 -- what a define or a withdraw, the call c, returned
 abbrev pub changed : Changed → Call → Answered Definition.Store
-changed r c = Definition.changed (stored r.store) r.number c
+changed r c = Definition.changed (stored r.store) (answer_number r.answer) c
 
 -- what a run returned, with the list's places and the output as it leaves them
 abbrev pub answered : Answer → List ℤ → List ℕ → Answered Definition.Store

@@ -6,7 +6,7 @@ ghost use Rattle.book.specs.Calls.{defines, withdraws, running};
 ghost use Rattle.book.specs.Store.{fresh_store, store_call};
 ghost use Rattle.engine.specs.Stored.{stored, changed, answered};
 
-use book::Report;
+use book::{Refusal, Report};
 use language::{LETTERS, OPEN, STORE_CELLS, VARIABLES};
 
 mod steps;
@@ -20,11 +20,11 @@ pub struct Store {
     pub vars: [i32; VARIABLES],
 }
 
-// The store after a define or a withdraw, and 0 or the refusal's number.
+// The store after a define or a withdraw, and Ok or the refusal.
 #[derive(Clone, Copy)]
 pub struct Changed {
     pub store: Store,
-    pub number: u32,
+    pub answer: Result<(), Refusal>,
 }
 
 // The store after a run, and the figures that the run returns.
@@ -36,14 +36,15 @@ pub struct Answer {
 
 impl Store {
     // Every letter cleared and open, every variable 0.
+    #[tactic(auto, unfolding(book::specs::Store::fresh_store))]
     pub fn fresh() -> Store
         ensures { stored result ≡ fresh_store }
     {
         Store {
-            cells: [0i32; STORE_CELLS],
-            used: [0usize; LETTERS],
+            cells: [0; STORE_CELLS],
+            used: [0; LETTERS],
             permissions: [OPEN; LETTERS],
-            vars: [0i32; VARIABLES],
+            vars: [0; VARIABLES],
         }
     }
 
@@ -51,28 +52,19 @@ impl Store {
     pub fn define(self, letter: u32, permission: u32, text: &[u8]) -> Changed
         ensures { changed result (defines letter permission text.now) ≡ store_call (stored self) (defines letter permission text.now) }
     {
-        let mut cells = self.cells;
-        let mut used = self.used;
-        let mut permissions = self.permissions;
-        let vars = self.vars;
-        let number = lent::define(
-            &mut cells,
-            &mut used,
-            &mut permissions,
-            &vars,
+        let mut defined = self;
+        let answer = lent::define(
+            &mut defined.cells,
+            &mut defined.used,
+            &mut defined.permissions,
+            &defined.vars,
             letter,
             permission,
             text,
         );
-        let defined = Store {
-            cells,
-            used,
-            permissions,
-            vars,
-        };
         Changed {
             store: defined,
-            number,
+            answer,
         }
     }
 
@@ -80,20 +72,17 @@ impl Store {
     pub fn withdraw(self, letter: u32) -> Changed
         ensures { changed result (withdraws letter) ≡ store_call (stored self) (withdraws letter) }
     {
-        let mut cells = self.cells;
-        let mut used = self.used;
-        let mut permissions = self.permissions;
-        let vars = self.vars;
-        let number = lent::withdraw(&mut cells, &mut used, &mut permissions, &vars, letter);
-        let cleared = Store {
-            cells,
-            used,
-            permissions,
-            vars,
-        };
+        let mut cleared = self;
+        let answer = lent::withdraw(
+            &mut cleared.cells,
+            &mut cleared.used,
+            &mut cleared.permissions,
+            &cleared.vars,
+            letter,
+        );
         Changed {
             store: cleared,
-            number,
+            answer,
         }
     }
 
@@ -110,14 +99,12 @@ impl Store {
         ensures { answered result list.new output.new
             ≡ store_call (stored self) (running letter role allowance inputs.now list.old output.old) }
     {
-        let used = self.used;
-        let permissions = self.permissions;
-        let mut vars = self.vars;
+        let mut store = self;
         let report = runner::run(
-            &self.cells,
-            &used,
-            &permissions,
-            &mut vars,
+            &store.cells,
+            &store.used,
+            &store.permissions,
+            &mut store.vars,
             letter,
             role,
             allowance,
@@ -125,8 +112,6 @@ impl Store {
             list,
             output,
         );
-        let mut store = self;
-        store.vars = vars;
         Answer { store, report }
     }
 }

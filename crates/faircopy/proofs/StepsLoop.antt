@@ -5,18 +5,17 @@ use mathlib.Core.List.{List, [], ◌∷◌, ◌++◌, append_assoc, append-nil}
 use Prim.Native.Nat.{ℕ, zero, suc, ◌+◌, ◌-◌, ◌≤◌, ◌<◌}
 use native.Mathlib.Omega.{arith}
 use lib.Dec.{leb, eqb}
-use lib.ListN.{length, get_or, drop, length-append, drop_of_length-le}
-use lib.Seq.{drop-drop}
+use lib.ListN.{length, get_or, drop, length-append, length-drop}
 use Rattle.language.specs.Bytes.{blank_byte, quote_byte, dollar_byte, tick_byte, comma_byte, point_byte, colon_byte, semicolon_byte}
 use Rattle.language.specs.Syntax.{Expr}
 use Rattle.language.specs.Reading.{accepted, read}
 use Rattle.numerals.specs.Numerals.{Written, wrote, written}
 use Rattle.numerals.proofs.Numerals.{written-room, written-two}
 use Rattle.faircopy.specs.FairCopy.{fair_copy}
-use Rattle.faircopy.specs.Steps.{Step, takes, after, reach, counter_step, tick_step, step_of, steps, Moves, Stands}
+use Rattle.faircopy.specs.Steps.{Step, takes, after, reach, counter_step, tick_step, step_of, steps, Moves, Fits}
 use Rattle.faircopy.specs.declared.Moved.{Moved}
 use Rattle.faircopy.proofs.Claims.{copy-shorter}
-use Rattle.faircopy.proofs.StepsParts.{at_place}
+use Rattle.faircopy.proofs.StepsParts.{tail, tail-drop, first-tail}
 use Rattle.faircopy.proofs.StepsCopy.{steps-copy}
 use Rattle.faircopy.proofs.Written.{nothing_written}
 
@@ -37,31 +36,31 @@ step-some b l =
     (either (eqb b dollar_byte) (after 1 (counter_step l)) _ (omega arith)
     (either (eqb b tick_byte) (after 1 (tick_step l)) (takes 1 (b ∷ [])) (omega arith) (omega arith))))))
 
--- the step at a place of the text s
-abbrev here : List ℕ → ℕ → Step
-here s from = step_of (get_or s from 0) (drop (from + 1) s)
+-- the step that begins the bytes l
+abbrev here : List ℕ → Step
+here l = step_of (get_or l 0 0) (tail l)
 
-steps-here : (s : List ℕ) (from n : ℕ) → from < length s → 1 ≤ n → steps n (drop from s) ≡ (here s from).bytes ++ steps (n - 1) (drop (from + (here s from).taken) s)
-steps-here s from zero h k = absurd (omega arith)
-steps-here s from (suc n) h k =
+steps-here : (l : List ℕ) (n : ℕ) → 1 ≤ length l → 1 ≤ n → steps n l ≡ (here l).bytes ++ steps (n - 1) (drop (here l).taken l)
+steps-here l zero h k = absurd (omega arith)
+steps-here [] (suc n) h k = absurd (omega arith)
+steps-here (b ∷ l) (suc n) h k =
     let e : n ≡ suc n - 1 = omega arith in
-    ap (steps (suc n)) (at_place s from h)
-    ∙ ap (λ (l : List ℕ). (here s from).bytes ++ steps n (drop (here s from).taken l)) (sym (at_place s from h))
-    ∙ (λ i. (here s from).bytes ++ steps (e i) (drop-drop (here s from).taken from s i))
+    let t : l ≡ tail (b ∷ l) = sym (tail-drop (b ∷ l)) in
+    (λ i. (step_of b (t i)).bytes ++ steps (e i) (drop (step_of b (t i)).taken (b ∷ l)))
 
 -- ── the loop ────────────────────────────────────────────────────────────────────────────────────
 
--- of the text s, accepted as w, what stands before a place is copied to the start of the buffer o, which is o' now
-pub record Copying (s o : List ℕ) (w : Expr) (from at : ℕ) (o' : List ℕ) : Type 0 where
+-- of a text accepted as w, what stands before the bytes l is copied to the start of the buffer o, which is o' now
+pub record Copying (o : List ℕ) (w : Expr) (l : List ℕ) (at : ℕ) (o' : List ℕ) : Type 0 where
   pub bytes : List ℕ
   pub left : ℕ
-  pub enough : length s ≤ from + left
-  pub whole : bytes ++ steps left (drop from s) ≡ fair_copy w
+  pub enough : length l ≤ left
+  pub whole : bytes ++ steps left l ≡ fair_copy w
   pub count : at ≡ length bytes
   pub buffer : wrote at o' ≡ written o 0 bytes
   pub size : length o' ≡ length o
 
-pub copying-none : (s o : List ℕ) (w : Expr) → read s ≡ accepted w → Copying s o w 0 0 o
+pub copying-none : (s o : List ℕ) (w : Expr) → read s ≡ accepted w → Copying o w s 0 o
 copying-none s o w h =
     record {
       bytes = [];
@@ -73,55 +72,57 @@ copying-none s o w h =
       size = refl;
     }
 
-module _ (s o : List ℕ) (w : Expr) (h : read s ≡ accepted w) (room : length s ≤ length o) (from at : ℕ) (o' : List ℕ) (q : Copying s o w from at o') where
-  module _ (inside : from < length s) where
+module _ (s o : List ℕ) (w : Expr) (h : read s ≡ accepted w) (room : length s ≤ length o) (l : List ℕ) (at : ℕ) (o' : List ℕ) (q : Copying o w l at o') where
+  module _ (some : 1 ≤ length l) where
     abbrev now-bytes : List ℕ
-    now-bytes = (here s from).bytes
+    now-bytes = (here l).bytes
 
     abbrev rest : List ℕ
-    rest = steps (q.left - 1) (drop (from + (here s from).taken) s)
+    rest = steps (q.left - 1) (drop (here l).taken l)
 
     whole-more : (q.bytes ++ now-bytes) ++ rest ≡ fair_copy w
     whole-more =
         append_assoc q.bytes now-bytes rest
-        ∙ ap (λ (l : List ℕ). q.bytes ++ l) (sym (steps-here s from q.left inside (omega (arith, q.enough))))
+        ∙ ap (λ (x : List ℕ). q.bytes ++ x) (sym (steps-here l q.left some (omega (arith, q.enough))))
         ∙ q.whole
 
-    fits : at + length now-bytes ≤ length o
-    fits =
+    pub copying-fits : Fits (here l) o' at
+    copying-fits =
         let a = length-append (q.bytes ++ now-bytes) rest in
         let b = length-append q.bytes now-bytes in
         let e = ap length whole-more in
         let c = copy-shorter s w h in
-        omega (arith, q.count)
+        omega (arith, q.count, q.size)
 
-    pub copying-stands : Stands s from o' at
-    copying-stands = record { inside = inside; fits = omega (arith, fits, q.size) }
+    module _ (m : Moved) (o'' : List ℕ) (v : Moves (here l) (get_or l 0 0 ∷ tail l) at o' o'' m) where
+      moved-rest : m.rest.now ≡ drop (here l).taken l
+      moved-rest = v.rest ∙ ap (drop (here l).taken) (first-tail l some)
 
-    -- the place is further on
-    pub copying-further : (m : Moved) (o'' : List ℕ) → Moves (here s from) from at o' o'' m → from < m.from
-    copying-further m o'' v = omega (arith, v.place, step-some (get_or s from 0) (drop (from + 1) s))
+      -- fewer bytes are left
+      pub copying-fewer : length m.rest.now < length l
+      copying-fewer =
+          let e = ap length moved-rest in
+          omega (arith, step-some (get_or l 0 0) (tail l), length-drop (here l).taken l)
 
-    pub copying-more : (m : Moved) (o'' : List ℕ) → Moves (here s from) from at o' o'' m → length o'' ≡ length o' → Copying s o w m.from m.at o''
-    copying-more m o'' v z =
-        let k : m.at ≡ at + length now-bytes = ap (λ (x : Written). x.next) (v.buffer ∙ sym (written-room o' at now-bytes copying-stands.fits)) in
-        record {
-          bytes = q.bytes ++ now-bytes;
-          left = q.left - 1;
-          enough = omega (arith, q.enough, v.place, step-some (get_or s from 0) (drop (from + 1) s));
-          whole = ap (λ (n : ℕ). (q.bytes ++ now-bytes) ++ steps (q.left - 1) (drop n s)) v.place ∙ whole-more;
-          count = omega (arith, q.count, length-append q.bytes now-bytes);
-          buffer = written-two o 0 q.bytes now-bytes q.buffer v.buffer (omega (arith, q.count, fits));
-          size = z ∙ q.size;
-        }
+      pub copying-more : length o'' ≡ length o' → Copying o w m.rest.now m.at o''
+      copying-more z =
+          let k : m.at ≡ at + length now-bytes = ap (λ (x : Written). x.next) (v.buffer ∙ sym (written-room o' at now-bytes copying-fits)) in
+          record {
+            bytes = q.bytes ++ now-bytes;
+            left = q.left - 1;
+            enough = omega (arith, q.enough, copying-fewer);
+            whole = ap (λ (x : List ℕ). (q.bytes ++ now-bytes) ++ steps (q.left - 1) x) moved-rest ∙ whole-more;
+            count = omega (arith, q.count, length-append q.bytes now-bytes);
+            buffer = written-two o 0 q.bytes now-bytes q.buffer v.buffer (omega (arith, q.count, copying-fits, q.size));
+            size = z ∙ q.size;
+          }
 
-  pub copying-done : length s ≤ from → wrote at o' ≡ written o 0 (fair_copy w)
+  pub copying-done : length l < 1 → wrote at o' ≡ written o 0 (fair_copy w)
   copying-done e =
-      let f : q.bytes ≡ fair_copy w =
-      sym (append-nil q.bytes) ∙ ap (λ (l : List ℕ). q.bytes ++ l) (sym (no_steps q.left)) ∙ ap (λ (l : List ℕ). q.bytes ++ steps q.left l) (sym (drop_of_length-le s e)) ∙ q.whole
-      in
+      let f : q.bytes ≡ fair_copy w = sym (append-nil q.bytes) ∙ ap (λ (x : List ℕ). q.bytes ++ x) (sym (no_steps q.left l e)) ∙ q.whole in
       q.buffer ∙ ap (written o 0) f
     where
-      no_steps : (n : ℕ) → steps n [] ≡ []
-      no_steps zero = refl
-      no_steps (suc n) = refl
+      no_steps : (n : ℕ) (x : List ℕ) → length x < 1 → steps n x ≡ []
+      no_steps zero x k = refl
+      no_steps (suc n) [] k = refl
+      no_steps (suc n) (b ∷ x) k = absurd (omega arith)

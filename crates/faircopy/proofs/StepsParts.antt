@@ -1,166 +1,130 @@
 -- One step of the copier, part by part.
 use mathlib.Core.Path.{◌≡◌, refl, sym, ap, ◌∙◌, subst}
-use mathlib.Core.Bool.{true, false, cond}
-use mathlib.Core.List.{List, [], ◌∷◌, ◌++◌, append_assoc, append-nil}
-use Prim.Native.Nat.{ℕ, suc, ◌+◌, ◌≤◌, ◌<◌}
-use native.Mathlib.Numerals.{add-one}
+use mathlib.Core.Bool.{Bool, true, false, cond, not}
+use mathlib.Core.List.{List, [], ◌∷◌, ◌++◌}
+use Rattle.std.specs.Prelude.{Option, None, Some}
+use Prim.Native.Nat.{ℕ, suc, ◌+◌, ◌-◌, ◌≤◌, ◌<◌}
 use native.Mathlib.Omega.{arith}
-use lib.Dec.{leb}
-use lib.ListN.{length, get_or, take, drop, length-append, drop_of_length-le}
-use lib.Seq.{drop-cons, drop-drop, length-paste}
-use borrow.Author.Tests.{eq-eqb, ne_eqb, le-leb, lt-leb}
-use Rattle.language.specs.Bytes.{blank_byte, quote_byte, dollar_byte, tick_byte, comma_byte, minus_byte, point_byte, slash_byte, digit_byte, colon_byte, semicolon_byte}
+use lib.Dec.{leb, ltb, eqb}
+use lib.ListN.{length, get_or, take, drop, length-append}
+use lib.Seq.{drop-drop, take-length, length-paste}
+use borrow.Author.Tests.{eq-eqb, ne_eqb, le-leb, lt-leb, ltb-true, ltb-false}
+use Rattle.std.specs.List.{position_or_len}
+use Rattle.language.specs.Bytes.{blank_byte, quote_byte, dollar_byte, tick_byte, comma_byte, point_byte, slash_byte, minus_byte, digit_byte, colon_byte, semicolon_byte}
 use Rattle.numerals.specs.Numerals.{Written, wrote, written}
 use Rattle.numerals.proofs.Numerals.{written-room, written-two}
-use Rattle.faircopy.specs.Steps.{Step, takes, after, prefixed, reach, through_step, is_more, zeros, counter_step, sign_bytes, digits_step, constant_step, tick_step, step_of, Moves, Fits}
+use Rattle.faircopy.specs.Steps.{Step, takes, after, prefixed, reach, through_step, zeros, counter_step, sign_bytes, digits_step, constant_step, tick_step, step_of, Moves, Fits}
 use Rattle.faircopy.specs.declared.Moved.{Moved}
 use Rattle.faircopy.proofs.Written.{nothing_written}
 
--- ── the place after a byte ──────────────────────────────────────────────────────────────────────
+-- ── the first byte and the others ───────────────────────────────────────────────────────────────
 
--- the bytes from a place on
-pub at_place : (s : List ℕ) (i : ℕ) → i < length s → drop i s ≡ get_or s i 0 ∷ drop (i + 1) s
-at_place s i h = drop-cons s i 0 h ∙ ap (λ (n : ℕ). get_or s i 0 ∷ drop n s) (sym (add-one i))
+-- the bytes after the first
+abbrev pub tail : List ℕ → List ℕ
+tail l = take (length l - 1) (drop 1 l)
 
-module _ (s : List ℕ) (i z : ℕ) where
-  pub reach-found : i < length s → get_or s i 0 ≡ z → i + 1 ≡ i + reach z (drop i s)
-  reach-found h e = sym (ap (λ (l : List ℕ). i + reach z l) (at_place s i h) ∙ rw (eq-eqb (get_or s i 0) z e))
+pub tail-drop : (l : List ℕ) → tail l ≡ drop 1 l
+tail-drop [] = refl
+tail-drop (b ∷ l) = let e : suc (length l) - 1 ≡ length l = omega arith in ap (λ (n : ℕ). take n l) e ∙ take-length l
 
-  pub reach-more : i < length s → (get_or s i 0 ≡ z → ⊥) → i + 1 + reach z (drop (i + 1) s) ≡ i + reach z (drop i s)
-  reach-more h n =
-      let e : i + suc (reach z (drop (i + 1) s)) ≡ i + 1 + reach z (drop (i + 1) s) = omega arith in
-      sym (ap (λ (l : List ℕ). i + reach z l) (at_place s i h) ∙ rw (ne_eqb (get_or s i 0) z n) e)
-
-  pub reach-end : length s ≤ i → i ≡ i + reach z (drop i s)
-  reach-end h = let e : i + 0 ≡ i = omega arith in sym (ap (λ (l : List ℕ). i + reach z l) (drop_of_length-le s h) ∙ e)
+pub first-tail : (l : List ℕ) → 1 ≤ length l → get_or l 0 0 ∷ tail l ≡ l
+first-tail [] h = absurd (omega arith)
+first-tail (b ∷ l) h = ap (λ (t : List ℕ). b ∷ t) (tail-drop (b ∷ l))
 
 -- ── the bytes up to a byte ──────────────────────────────────────────────────────────────────────
 
--- of the bytes of the text s from a place on, those before place i are copied to place `at` of the buffer o, which is o' now
-pub record Through (s : List ℕ) (from z : ℕ) (o : List ℕ) (at i n : ℕ) (o' : List ℕ) : Type 0 where
-  pub bytes : List ℕ
-  pub whole : bytes ++ (through_step z (drop i s)).bytes ≡ (through_step z (drop from s)).bytes
-  pub place : i + reach z (drop i s) ≡ from + reach z (drop from s)
-  pub count : n ≡ at + length bytes
-  pub buffer : wrote n o' ≡ written o at bytes
-  pub size : length o' ≡ length o
+module _ (z : ℕ) where
+  abbrev pub is_end : ℕ → Bool
+  is_end b = eqb b z
 
-module _ (s : List ℕ) (from z : ℕ) (o : List ℕ) (at : ℕ) (h : Fits (through_step z (drop from s)) o at) where
-  pub through-none : Through s from z o at from at o
-  through-none =
-      record { bytes = []; whole = refl; place = refl; count = omega arith; buffer = nothing_written o at (omega arith); size = refl }
+  pub reach-within : (l : List ℕ) → reach z l ≤ length l
+  reach-within [] = omega arith
+  reach-within (b ∷ l) = go (is_end b) (reach-within l)
+    where
+      go : (u : Bool) → reach z l ≤ length l → cond u 1 (suc (reach z l)) ≤ suc (length l)
+      go true h = omega arith
+      go false h = omega arith
 
-  module _ (i n : ℕ) (o' : List ℕ) (q : Through s from z o at i n o') where
-    pub through-end : length s ≤ i → Moves (through_step z (drop from s)) from at o o' (record { from = i; at = n })
-    through-end l =
-        let e : q.bytes ≡ (through_step z (drop from s)).bytes =
-        sym (append-nil q.bytes) ∙ ap (λ (x : List ℕ). q.bytes ++ take (reach z x) x) (sym (drop_of_length-le s l)) ∙ q.whole
-        in
-        record { place = omega (arith, q.place, reach-end s i z l); buffer = q.buffer ∙ ap (written o at) e }
+  place-reach : (l : List ℕ) → position_or_len is_end l < length l → position_or_len is_end l + 1 ≡ reach z l
+  place-reach [] h = absurd (omega arith)
+  place-reach (b ∷ l) h = go (is_end b) (place-reach l) h
+    where
+      go : (u : Bool) → (position_or_len is_end l < length l → position_or_len is_end l + 1 ≡ reach z l)
+          → cond (not u) (1 + position_or_len is_end l) 0 < suc (length l) → cond (not u) (1 + position_or_len is_end l) 0 + 1 ≡ cond u 1 (suc (reach z l))
+      go true r k = refl
+      go false r k = let e = r (omega arith) in omega arith
 
-    -- the byte at place i is copied
-    module _ (inside : i < length s) (r : ℕ) (o'' : List ℕ) (w : wrote r o'' ≡ written o' n (get_or s i 0 ∷ [])) where
-      abbrev one : List ℕ
-      one = get_or s i 0 ∷ []
+  none-reach : (l : List ℕ) → length l ≤ position_or_len is_end l → length l ≡ reach z l
+  none-reach [] h = refl
+  none-reach (b ∷ l) h = go (is_end b) (none-reach l) h
+    where
+      go : (u : Bool) → (length l ≤ position_or_len is_end l → length l ≡ reach z l)
+          → suc (length l) ≤ cond (not u) (1 + position_or_len is_end l) 0 → suc (length l) ≡ cond u 1 (suc (reach z l))
+      go true r k = absurd (omega arith)
+      go false r k = let e = r (omega arith) in omega arith
 
-      -- what is copied with it
-      copied_more : (t : List ℕ) → (through_step z (drop i s)).bytes ≡ get_or s i 0 ∷ t → (q.bytes ++ one) ++ t ≡ (through_step z (drop from s)).bytes
-      copied_more t e = append_assoc q.bytes one t ∙ ap (λ (x : List ℕ). q.bytes ++ x) (sym e) ∙ q.whole
+  -- what the search for the byte finds
+  abbrev pub found : List ℕ → Option ℕ
+  found l = cond (ltb (position_or_len is_end l) (length l)) (Some (position_or_len is_end l)) None
 
-      room : (t : List ℕ) → (through_step z (drop i s)).bytes ≡ get_or s i 0 ∷ t → at + length q.bytes + 1 ≤ length o
-      room t e =
-          let l = ap length (copied_more t e) in
-          omega (arith, h, length-append (q.bytes ++ one) t, length-append q.bytes one)
+  pub reach-found : (l : List ℕ) (i : ℕ) → found l ≡ Some i → i + 1 ≡ reach z l
+  reach-found l i h = go (ltb (position_or_len is_end l) (length l)) refl h
+    where
+      go : (u : Bool) → ltb (position_or_len is_end l) (length l) ≡ u → cond u (Some (position_or_len is_end l)) None ≡ Some i → i + 1 ≡ reach z l
+      go true e k = let p : position_or_len is_end l ≡ i = cc in let r = place-reach l (ltb-true _ _ e) in omega arith
+      go false e k = absurd cc
 
-      both : (t : List ℕ) → (through_step z (drop i s)).bytes ≡ get_or s i 0 ∷ t → wrote r o'' ≡ written o at (q.bytes ++ one)
-      both t e = written-two o at q.bytes one q.buffer w (omega (arith, room t e))
-
-      found-bytes : get_or s i 0 ≡ z → (through_step z (drop i s)).bytes ≡ get_or s i 0 ∷ []
-      found-bytes e = ap (λ (x : List ℕ). take (reach z x) x) (at_place s i inside) ∙ rw (eq-eqb (get_or s i 0) z e)
-
-      pub through-found : get_or s i 0 ≡ z → Moves (through_step z (drop from s)) from at o o'' (record { from = i + 1; at = r })
-      through-found e =
-          record {
-            place = omega (arith, q.place, reach-found s i z inside e);
-            buffer = both [] (found-bytes e) ∙ ap (written o at) (sym (append-nil (q.bytes ++ one)) ∙ copied_more [] (found-bytes e));
-          }
-
-      more_bytes : (get_or s i 0 ≡ z → ⊥) → (through_step z (drop i s)).bytes ≡ get_or s i 0 ∷ (through_step z (drop (i + 1) s)).bytes
-      more_bytes e = ap (λ (x : List ℕ). take (reach z x) x) (at_place s i inside) ∙ rw (ne_eqb (get_or s i 0) z e)
-
-      pub through-more : (get_or s i 0 ≡ z → ⊥) → length o'' ≡ length o' → Through s from z o at (i + 1) r o''
-      through-more e l =
-          let t = (through_step z (drop (i + 1) s)).bytes in
-          let k : r ≡ at + length (q.bytes ++ one) =
-          ap (λ (x : Written). x.next) (both t (more_bytes e) ∙ sym (written-room o at (q.bytes ++ one) (omega (arith, room t (more_bytes e), length-append q.bytes one))))
-          in
-          record {
-            bytes = q.bytes ++ one;
-            whole = copied_more t (more_bytes e);
-            place = reach-more s i z inside e ∙ q.place;
-            count = k;
-            buffer = both t (more_bytes e);
-            size = l ∙ q.size;
-          }
+  pub reach-none : (l : List ℕ) → found l ≡ None → length l ≡ reach z l
+  reach-none l h = go (ltb (position_or_len is_end l) (length l)) refl h
+    where
+      go : (u : Bool) → ltb (position_or_len is_end l) (length l) ≡ u → cond u (Some (position_or_len is_end l)) None ≡ None → length l ≡ reach z l
+      go true e k = absurd cc
+      go false e k = none-reach l (ltb-false _ _ e)
 
 -- ── leading zeros ───────────────────────────────────────────────────────────────────────────────
 
-module _ (s : List ℕ) (i : ℕ) where
-  pub zeros-end : length s ≤ i → i ≡ i + zeros (drop i s)
-  zeros-end h = let e : i + 0 ≡ i = omega arith in sym (ap (λ (l : List ℕ). i + zeros l) (drop_of_length-le s h) ∙ e)
+pub zeros-last : (l : List ℕ) → length l < 2 → zeros l ≡ 0
+zeros-last [] h = refl
+zeros-last (b ∷ []) h = go (eqb b (digit_byte 0))
+  where
+    go : (u : Bool) → ◌≡◌ {A = ℕ} (cond u 0 0) 0
+    go true = refl
+    go false = refl
+zeros-last (b ∷ d ∷ l) h = absurd (omega arith)
 
-  module _ (inside : i < length s) where
-    pub zeros-other : (get_or s i 0 ≡ digit_byte 0 → ⊥) → i ≡ i + zeros (drop i s)
-    zeros-other n =
-        let e : i + 0 ≡ i = omega arith in
-        sym (ap (λ (l : List ℕ). i + zeros l) (at_place s i inside) ∙ rw (ne_eqb (get_or s i 0) (digit_byte 0) n) e)
+pub zeros-other : (l : List ℕ) → (get_or l 0 0 ≡ digit_byte 0 → ⊥) → zeros l ≡ 0
+zeros-other [] n = refl
+zeros-other (b ∷ l) n = rw (ne_eqb b (digit_byte 0) n)
 
-    -- a 0 stands there
-    module _ (z : get_or s i 0 ≡ digit_byte 0) where
-      by_next : zeros (drop i s) ≡ cond (is_more (drop (i + 1) s)) (suc (zeros (drop (i + 1) s))) 0
-      by_next = ap zeros (at_place s i inside) ∙ rw (eq-eqb (get_or s i 0) (digit_byte 0) z)
+pub zeros-lone : (l : List ℕ) → 2 ≤ length l → get_or l 0 0 ≡ digit_byte 0 → get_or l 1 0 < digit_byte 0 → zeros l ≡ 0
+zeros-lone [] h z n = absurd (omega arith)
+zeros-lone (b ∷ []) h z n = absurd (omega arith)
+zeros-lone (b ∷ d ∷ l) h z n = rw (eq-eqb b (digit_byte 0) z, lt-leb (digit_byte 0) d n)
 
-      pub zeros-last : length s ≤ i + 1 → i ≡ i + zeros (drop i s)
-      zeros-last h =
-          let e : zeros (drop i s) ≡ 0 = by_next ∙ ap (λ (l : List ℕ). cond (is_more l) (suc (zeros l)) 0) (drop_of_length-le s h) in
-          omega arith
-
-      more-is : i + 1 < length s → is_more (drop (i + 1) s) ≡ leb (digit_byte 0) (get_or s (i + 1) 0)
-      more-is h = ap is_more (at_place s (i + 1) h)
-
-      pub zeros-lone : i + 1 < length s → get_or s (i + 1) 0 < digit_byte 0 → i ≡ i + zeros (drop i s)
-      zeros-lone h n =
-          let e : zeros (drop i s) ≡ 0 = by_next ∙ rw (more-is h ∙ lt-leb (digit_byte 0) (get_or s (i + 1) 0) n) in
-          omega arith
-
-      pub zeros-more : i + 1 < length s → digit_byte 0 ≤ get_or s (i + 1) 0 → i + 1 + zeros (drop (i + 1) s) ≡ i + zeros (drop i s)
-      zeros-more h n =
-          let e : zeros (drop i s) ≡ suc (zeros (drop (i + 1) s)) = by_next ∙ rw (more-is h ∙ le-leb (digit_byte 0) (get_or s (i + 1) 0) n) in
-          omega arith
-
--- the bytes after k of those from a place on
-pub dropped : (s : List ℕ) (from k first : ℕ) → first ≡ from + k → drop first s ≡ drop k (drop from s)
-dropped s from k first e = ap (λ (n : ℕ). drop n s) e ∙ sym (drop-drop k from s)
+pub zeros-more : (l : List ℕ) → 2 ≤ length l → get_or l 0 0 ≡ digit_byte 0 → digit_byte 0 ≤ get_or l 1 0
+    → drop (zeros (drop 1 l)) (drop 1 l) ≡ drop (zeros l) l
+zeros-more [] h z n = absurd (omega arith)
+zeros-more (b ∷ []) h z n = absurd (omega arith)
+zeros-more (b ∷ d ∷ l) h z n =
+    let e : zeros (b ∷ d ∷ l) ≡ suc (zeros (d ∷ l)) = rw (eq-eqb b (digit_byte 0) z, le-leb (digit_byte 0) d n) in
+    sym (ap (λ (k : ℕ). drop k (b ∷ d ∷ l)) e)
 
 -- ── the sign ────────────────────────────────────────────────────────────────────────────────────
 
-module _ (s : List ℕ) (i : ℕ) where
-  pub sign-end : length s ≤ i → sign_bytes true (drop i s) ≡ []
-  sign-end h = ap (sign_bytes true) (drop_of_length-le s h)
-
-  pub sign_zero : i < length s → get_or s i 0 ≡ digit_byte 0 → sign_bytes true (drop i s) ≡ []
-  sign_zero h e = ap (sign_bytes true) (at_place s i h) ∙ rw (eq-eqb (get_or s i 0) (digit_byte 0) e)
-
-  pub sign-minus : i < length s → (get_or s i 0 ≡ digit_byte 0 → ⊥) → sign_bytes true (drop i s) ≡ minus_byte ∷ []
-  sign-minus h e = ap (sign_bytes true) (at_place s i h) ∙ rw (ne_eqb (get_or s i 0) (digit_byte 0) e)
+-- no `-`, since none is said, or no digit comes or a 0
+pub no-sign : (o : List ℕ) (at : ℕ) → at ≤ length o → (u : Bool) (l : List ℕ) → (u ≡ true → 1 ≤ length l → get_or l 0 0 ≡ digit_byte 0)
+    → wrote at o ≡ written o at (sign_bytes u l)
+no-sign o at h false l z = nothing_written o at (omega arith)
+no-sign o at h true [] z = nothing_written o at (omega arith)
+no-sign o at h true (b ∷ l) z = nothing_written o at (omega arith) ∙ ap (written o at) (sym (rw (eq-eqb b (digit_byte 0) (z refl (omega arith)))))
 
 -- ── one step as part of another ─────────────────────────────────────────────────────────────────
 
-pub moves-as : {st u : Step} {from at : ℕ} {o o' : List ℕ} {m : Moved} → st ≡ u → Moves u from at o o' m → Moves st from at o o' m
-moves-as {st} {u} {from} {at} {o} {o'} {m} e h = subst (λ x. Moves x from at o o' m) (sym e) h
+pub moves-as : {st u : Step} {l : List ℕ} {at : ℕ} {o o' : List ℕ} {m : Moved} → st ≡ u → Moves u l at o o' m → Moves st l at o o' m
+moves-as {st} {u} {l} {at} {o} {o'} {m} e h = subst (λ x. Moves x l at o o' m) (sym e) h
 
-pub moves-after : {st : Step} {from at : ℕ} {o o' : List ℕ} {m : Moved} (k first : ℕ) → first ≡ from + k → Moves st first at o o' m → Moves (after k st) from at o o' m
-moves-after k first e h = record { place = omega (arith, h.place); buffer = h.buffer }
+pub moves-after : {st : Step} {at : ℕ} {o o' : List ℕ} {m : Moved} (k : ℕ) (l : List ℕ) → Moves st (drop k l) at o o' m → Moves (after k st) l at o o' m
+moves-after {st} k l h = record { rest = h.rest ∙ drop-drop st.taken k l; buffer = h.buffer }
 
 pub fits-as : {st u : Step} (o : List ℕ) (at : ℕ) → st ≡ u → Fits st o at → Fits u o at
 fits-as o at e h = subst (λ x. Fits x o at) e h
@@ -177,39 +141,44 @@ module _ (o : List ℕ) (at : ℕ) (b : List ℕ) {o₁ : List ℕ} {n : ℕ} (w
       let l : length o₁ ≡ length o = ap (λ (x : Written). length x.buffer) e ∙ length-paste o at b (length b) (omega (arith, room_for)) (omega arith) in
       omega (arith, room_for)
 
-  pub moves-prefixed : {from : ℕ} {o₂ : List ℕ} {m : Moved} → Moves st from n o₁ o₂ m → Moves (prefixed b st) from at o o₂ m
-  moves-prefixed h = record { place = h.place; buffer = written-two o at b st.bytes w h.buffer room_for }
+  pub moves-prefixed : {l : List ℕ} {o₂ : List ℕ} {m : Moved} → Moves st l n o₁ o₂ m → Moves (prefixed b st) l at o o₂ m
+  moves-prefixed h = record { rest = h.rest; buffer = written-two o at b st.bytes w h.buffer room_for }
+
+-- the digits d, which are what is left of the bytes l after leading zeros
+pub moves-digits : (z : ℕ) (l : List ℕ) {d : List ℕ} {n : ℕ} {o₁ o₂ : List ℕ} {m : Moved} → d ≡ drop (zeros l) l → Moves (through_step z d) d n o₁ o₂ m
+    → Moves (through_step z (drop (zeros l) l)) (drop (zeros l) l) n o₁ o₂ m
+moves-digits z l {d} {n} {o₁} {o₂} {m} e h = subst (λ (x : List ℕ). Moves (through_step z x) x n o₁ o₂ m) e h
 
 -- ── constants and prints ────────────────────────────────────────────────────────────────────────
 
-module _ (s : List ℕ) (from : ℕ) where
-  pub constant-none : length s ≤ from → constant_step (drop from s) ≡ digits_step false (drop from s)
-  unfolding constant_step
-  constant-none h = let e = drop_of_length-le s h in ap constant_step e ∙ ap (digits_step false) (sym e)
+pub moves-tail : {st : Step} {at : ℕ} {o o' : List ℕ} {m : Moved} (l : List ℕ) → Moves st (tail l) at o o' m → Moves (after 1 st) l at o o' m
+moves-tail {st} {at} {o} {o'} {m} l h = moves-after 1 l (subst (λ (x : List ℕ). Moves st x at o o' m) (tail-drop l) h)
 
-  pub constant-minus : from < length s → get_or s from 0 ≡ minus_byte → constant_step (drop from s) ≡ after 1 (digits_step true (drop (from + 1) s))
-  unfolding constant_step
-  constant-minus h m = ap constant_step (at_place s from h) ∙ rw (eq-eqb (get_or s from 0) minus_byte m)
+pub constant-minus : (l : List ℕ) → 1 ≤ length l → get_or l 0 0 ≡ minus_byte → constant_step l ≡ after 1 (digits_step true (tail l))
+unfolding constant_step
+constant-minus [] h e = absurd (omega arith)
+constant-minus (b ∷ l) h e = rw (eq-eqb b minus_byte e, tail-drop (b ∷ l))
 
-  pub constant-plain : from < length s → (get_or s from 0 ≡ minus_byte → ⊥) → constant_step (drop from s) ≡ digits_step false (drop from s)
-  unfolding constant_step
-  constant-plain h n =
-      ap constant_step (at_place s from h)
-      ∙ ap (λ u. cond u (after 1 (digits_step true (drop (from + 1) s))) (digits_step false (get_or s from 0 ∷ drop (from + 1) s))) (ne_eqb (get_or s from 0) minus_byte n)
-      ∙ ap (digits_step false) (sym (at_place s from h))
+pub constant-plain : (l : List ℕ) → (1 ≤ length l → get_or l 0 0 ≡ minus_byte → ⊥) → constant_step l ≡ digits_step false l
+unfolding constant_step
+constant-plain [] n = refl
+constant-plain (b ∷ l) n = rw (ne_eqb b minus_byte (n (omega arith)))
 
-  pub tick-none : length s ≤ from → tick_step (drop from s) ≡ takes 0 []
-  unfolding tick_step
-  tick-none h = ap tick_step (drop_of_length-le s h)
+pub tick-none : (l : List ℕ) → length l < 1 → tick_step l ≡ takes 0 []
+unfolding tick_step
+tick-none [] h = refl
+tick-none (b ∷ l) h = absurd (omega arith)
 
-  pub tick-constant : from < length s → get_or s from 0 ≡ slash_byte → tick_step (drop from s) ≡ after 1 (constant_step (drop (from + 1) s))
-  unfolding tick_step
-  tick-constant h m = ap tick_step (at_place s from h) ∙ rw (eq-eqb (get_or s from 0) slash_byte m)
+pub tick-constant : (l : List ℕ) → 1 ≤ length l → get_or l 0 0 ≡ slash_byte → tick_step l ≡ after 1 (constant_step (tail l))
+unfolding tick_step
+tick-constant [] h e = absurd (omega arith)
+tick-constant (b ∷ l) h e = rw (eq-eqb b slash_byte e, tail-drop (b ∷ l))
 
-  pub tick-print : from < length s → (get_or s from 0 ≡ slash_byte → ⊥)
-      → tick_step (drop from s) ≡ after 1 (prefixed (tick_byte ∷ tick_byte ∷ []) (through_step tick_byte (drop (from + 1) s)))
-  unfolding tick_step
-  tick-print h n = ap tick_step (at_place s from h) ∙ rw (ne_eqb (get_or s from 0) slash_byte n)
+pub tick-print : (l : List ℕ) → 1 ≤ length l → (get_or l 0 0 ≡ slash_byte → ⊥)
+    → tick_step l ≡ after 1 (prefixed (tick_byte ∷ tick_byte ∷ []) (through_step tick_byte (tail l)))
+unfolding tick_step
+tick-print [] h n = absurd (omega arith)
+tick-print (b ∷ l) h n = rw (ne_eqb b slash_byte n, tail-drop (b ∷ l))
 
 -- ── any byte ────────────────────────────────────────────────────────────────────────────────────
 

@@ -87,19 +87,14 @@ steps (suc n) (b ∷ l) = (step_of b l).bytes ++ steps n (drop (step_of b l).tak
 
 -- ── what the code's functions promise and need ──────────────────────────────────────────────────
 
--- a step was made from a place of the text and of the buffer o, which is o' now
-pub record Moves (s : Step) (from at : ℕ) (o o' : List ℕ) (m : Moved) : Type 0 where
-  pub place : m.from ≡ from + s.taken
+-- a step was made from the start of the bytes l, and written at a place of the buffer o, which is o' now
+pub record Moves (s : Step) (l : List ℕ) (at : ℕ) (o o' : List ℕ) (m : Moved) : Type 0 where
+  pub rest : m.rest.now ≡ drop s.taken l
   pub buffer : wrote m.at o' ≡ written o at s.bytes
 
 -- what a step writes fits at a place of the buffer o
 abbrev pub Fits : Step → List ℕ → ℕ → Type 0
 Fits s o at = at + length s.bytes ≤ length o
-
--- a byte stands at a place of the text s, and what the step from it on writes fits
-pub record Stands (s : List ℕ) (from : ℕ) (o : List ℕ) (at : ℕ) : Type 0 where
-  pub inside : from < length s
-  pub fits : Fits (step_of (get_or s from 0) (drop (from + 1) s)) o at
 
 -- the text s is accepted, and the buffer o is no shorter
 pub record Copies (s o : List ℕ) : Type 0 where

@@ -1,12 +1,12 @@
 // The fair copy of a source text: the same marks in the same order, and nothing else.
 #![tactic(auto)]
 
-ghost use Rattle.std.specs.Prelude.{◌≡◌, [], ◌∷◌, ◌+◌, ◌≤◌, length, get_or, drop};
+ghost use Rattle.std.specs.Prelude.{◌≡◌, [], ◌∷◌, ◌≤◌, length, drop};
 ghost use Rattle.language.specs.Syntax.{Expr};
 ghost use Rattle.language.specs.Reading.{accepted, read};
 ghost use Rattle.numerals.specs.Numerals.{wrote, written, delivers};
 ghost use Rattle.faircopy.specs.FairCopy.{fair_copy, copy_number, length_of, copied};
-ghost use Rattle.faircopy.specs.Steps.{reach, zeros, through_step, counter_step, sign_bytes, digits_step, constant_step, tick_step, step_of, Moves, Fits, Stands, Copies};
+ghost use Rattle.faircopy.specs.Steps.{reach, zeros, through_step, counter_step, sign_bytes, digits_step, constant_step, tick_step, step_of, Moves, Fits, Copies};
 
 use language::TEXT;
 use linker::link;
@@ -47,173 +47,138 @@ impl Copied {
     }
 }
 
-// The place in a text after what was copied, and the place after its copy.
+// What is left of a text after a copy, and the place after the copy.
 #[derive(Clone, Copy)]
-struct Moved {
-    from: usize,
+struct Moved<'a> {
+    rest: &'a [u8],
     at: usize,
 }
 
 // A byte at a place of a buffer: the place after it. Where it does not fit, the buffer stays as it was, and the answer is the place itself.
-fn write_byte(out: &mut [u8], at: usize, b: u8) -> usize
-    ensures { wrote result out.new ≡ written out.old at (b ∷ []) }
+fn write_byte(out: &mut [u8], at: usize, byte: u8) -> usize
+    ensures { wrote result out.new ≡ written out.old at (byte ∷ []) }
 {
-    if out.len() <= at {
-        return at;
-    }
-    out[at] = b;
-    at + 1
+    write_bytes(out, at, &[byte])
 }
 
-// The place after the first `close`, or the end of the text.
-fn place_after(text: &[u8], from: usize, close: u8) -> usize
-    ensures { result ≡ from + reach close (drop from text.now) }
+// How many bytes there are up to and with the first `close`, or in all.
+fn reach(text: &[u8], close: u8) -> usize
+    ensures { result ≡ reach close text.now }
 {
-    let mut i = from;
-    while i < text.len() {
-        let b = text[i];
-        i += 1;
-        if b == close {
-            return i;
-        }
+    match text.iter().position(|byte| *byte == close) {
+        Some(place) => place + 1,
+        None => text.len(),
     }
-    i
 }
 
 // The bytes up to and with the first `close`, or to the end of the text, as they stand.
-fn copy_through(text: &[u8], from: usize, close: u8, out: &mut [u8], at: usize) -> Moved
-    requires { Fits (through_step close (drop from text.now)) out.old at }
-    ensures { Moves (through_step close (drop from text.now)) from at out.old out.new result }
+fn copy_through<'a>(text: &'a [u8], close: u8, out: &mut [u8], at: usize) -> Moved<'a>
+    ensures { Moves (through_step close text.now) text.now at out.old out.new result }
 {
-    let mut i = from;
-    let mut n = at;
-    while i < text.len() {
-        let b = text[i];
-        n = write_byte(out, n, b);
-        i += 1;
-        if b == close {
-            return Moved { from: i, at: n };
-        }
+    let (copied, rest) = text.split_at(reach(text, close));
+    Moved {
+        rest,
+        at: write_bytes(out, at, copied),
     }
-    Moved { from: i, at: n }
 }
 
-// The place after leading zeros: a 0 is one where a digit comes after it.
-fn past_zeros(text: &[u8], from: usize) -> usize
-    ensures { result ≡ from + zeros (drop from text.now) }
+// What is left after leading zeros: a 0 is one where a digit comes after it.
+fn past_zeros(text: &[u8]) -> &[u8]
+    ensures { result.now ≡ drop (zeros text.now) text.now }
 {
-    let mut i = from;
-    while i < text.len() {
-        if text[i] != b'0' {
-            return i;
+    let mut rest = text;
+    while let [b'0', next, ..] = rest {
+        if *next < b'0' {
+            return rest;
         }
-        let next = i + 1;
-        if text.len() <= next {
-            return i;
-        }
-        if text[next] < b'0' {
-            return i;
-        }
-        i = next;
+        rest = &rest[1..];
     }
-    i
+    rest
 }
 
 // After a counter's `$`.
-fn copy_counter(text: &[u8], from: usize, out: &mut [u8], at: usize) -> Moved
-    requires { Fits (counter_step (drop from text.now)) out.old at }
-    ensures { Moves (counter_step (drop from text.now)) from at out.old out.new result }
+fn copy_counter<'a>(text: &'a [u8], out: &mut [u8], at: usize) -> Moved<'a>
+    requires { Fits (counter_step text.now) out.old at }
+    ensures { Moves (counter_step text.now) text.now at out.old out.new result }
 {
-    let first = past_zeros(text, from);
-    let digits = write_byte(out, at, b'$');
-    copy_through(text, first, b'$', out, digits)
+    let after_dollar = write_byte(out, at, b'$');
+    copy_through(past_zeros(text), b'$', out, after_dollar)
 }
 
-// The `-` of a constant whose first digit is at a place, where it is said and the digit is not 0.
-fn write_sign(text: &[u8], first: usize, minus: bool, out: &mut [u8], at: usize) -> usize
+// The `-` of a constant with these digits, where it is said and the first digit is not 0.
+fn write_sign(digits: &[u8], minus: bool, out: &mut [u8], at: usize) -> usize
     requires { at ≤ length out.old }
-    ensures { wrote result out.new ≡ written out.old at (sign_bytes minus (drop first text.now)) }
+    ensures { wrote result out.new ≡ written out.old at (sign_bytes minus digits.now) }
 {
-    if !minus {
-        return at;
+    match digits {
+        [first, ..] if minus && *first != b'0' => write_byte(out, at, b'-'),
+        _ => at,
     }
-    if text.len() <= first {
-        return at;
-    }
-    if text[first] == b'0' {
-        return at;
-    }
-    write_byte(out, at, b'-')
 }
 
 // After `'/` and perhaps `-`.
-fn copy_digits(text: &[u8], from: usize, minus: bool, out: &mut [u8], at: usize) -> Moved
-    requires { Fits (digits_step minus (drop from text.now)) out.old at }
-    ensures { Moves (digits_step minus (drop from text.now)) from at out.old out.new result }
+fn copy_digits<'a>(text: &'a [u8], minus: bool, out: &mut [u8], at: usize) -> Moved<'a>
+    requires { Fits (digits_step minus text.now) out.old at }
+    ensures { Moves (digits_step minus text.now) text.now at out.old out.new result }
 {
-    let first = past_zeros(text, from);
-    let sign = write_bytes(out, at, b"'/");
-    let digits = write_sign(text, first, minus, out, sign);
-    copy_through(text, first, b'\'', out, digits)
+    let digits = past_zeros(text);
+    let after_slash = write_bytes(out, at, b"'/");
+    let after_sign = write_sign(digits, minus, out, after_slash);
+    copy_through(digits, b'\'', out, after_sign)
 }
 
 // After `'/`.
-fn copy_constant(text: &[u8], from: usize, out: &mut [u8], at: usize) -> Moved
-    requires { Fits (constant_step (drop from text.now)) out.old at }
-    ensures { Moves (constant_step (drop from text.now)) from at out.old out.new result }
+fn copy_constant<'a>(text: &'a [u8], out: &mut [u8], at: usize) -> Moved<'a>
+    requires { Fits (constant_step text.now) out.old at }
+    ensures { Moves (constant_step text.now) text.now at out.old out.new result }
 {
-    if text.len() <= from {
-        return copy_digits(text, from, false, out, at);
+    match text {
+        [b'-', digits @ ..] => copy_digits(digits, true, out, at),
+        _ => copy_digits(text, false, out, at),
     }
-    if text[from] == b'-' {
-        return copy_digits(text, from + 1, true, out, at);
-    }
-    copy_digits(text, from, false, out, at)
 }
 
 // After a `'`.
-fn copy_quoted(text: &[u8], from: usize, out: &mut [u8], at: usize) -> Moved
-    requires { Fits (tick_step (drop from text.now)) out.old at }
-    ensures { Moves (tick_step (drop from text.now)) from at out.old out.new result }
+fn copy_quoted<'a>(text: &'a [u8], out: &mut [u8], at: usize) -> Moved<'a>
+    requires { Fits (tick_step text.now) out.old at }
+    ensures { Moves (tick_step text.now) text.now at out.old out.new result }
 {
-    if text.len() <= from {
-        return Moved { from, at };
+    match text {
+        [] => Moved { rest: text, at },
+        [b'/', constant @ ..] => copy_constant(constant, out, at),
+        [_, print @ ..] => {
+            let after_quotes = write_bytes(out, at, b"''");
+            copy_through(print, b'\'', out, after_quotes)
+        }
     }
-    if text[from] == b'/' {
-        return copy_constant(text, from + 1, out, at);
-    }
-    let bytes = write_bytes(out, at, b"''");
-    copy_through(text, from + 1, b'\'', out, bytes)
 }
 
 // A blank, a newline, a comment, a mark, or one byte of a variable.
-fn copy_step(text: &[u8], from: usize, out: &mut [u8], at: usize) -> Moved
-    requires { Stands text.now from out.old at }
-    ensures { Moves (step_of (get_or text.now from 0) (drop (from + 1) text.now)) from at out.old out.new result }
+fn copy_step<'a>(byte: u8, text: &'a [u8], out: &mut [u8], at: usize) -> Moved<'a>
+    requires { Fits (step_of byte text.now) out.old at }
+    ensures { Moves (step_of byte text.now) (byte ∷ text.now) at out.old out.new result }
 {
-    let next = from + 1;
-    let b = text[from];
-    if b <= b' ' {
-        return Moved { from: next, at };
+    if byte <= b' ' {
+        return Moved { rest: text, at };
     }
-    match b {
-        b'"' => Moved {
-            from: place_after(text, next, b'"'),
-            at,
-        },
+    match byte {
+        b'"' => {
+            let (_, rest) = text.split_at(reach(text, b'"'));
+            Moved { rest, at }
+        }
         b',' => Moved {
-            from: next,
+            rest: text,
             at: write_byte(out, at, b';'),
         },
         b'.' => Moved {
-            from: next,
+            rest: text,
             at: write_byte(out, at, b':'),
         },
-        b'$' => copy_counter(text, next, out, at),
-        b'\'' => copy_quoted(text, next, out, at),
+        b'$' => copy_counter(text, out, at),
+        b'\'' => copy_quoted(text, out, at),
         _ => Moved {
-            from: next,
-            at: write_byte(out, at, b),
+            rest: text,
+            at: write_byte(out, at, byte),
         },
     }
 }
@@ -223,12 +188,12 @@ fn copy_text(text: &[u8], out: &mut [u8]) -> usize
     requires { Copies text.now out.old }
     ensures { (w : Expr) → read text.now ≡ accepted w → wrote result out.new ≡ written out.old 0 (fair_copy w) }
 {
-    let mut from: usize = 0;
+    let mut left = text;
     let mut at: usize = 0;
-    while from < text.len() {
-        let m = copy_step(text, from, out, at);
-        from = m.from;
-        at = m.at;
+    while let [byte, rest @ ..] = left {
+        let moved = copy_step(*byte, rest, out, at);
+        left = moved.rest;
+        at = moved.at;
     }
     at
 }

@@ -1,3 +1,2 @@
 pub mod LinkedText
-pub mod Into
 pub mod Examples

@@ -6,29 +6,23 @@ use lib.IntN.{ℤ}
 use lib.ListN.{length, get_or, drop}
 use lib.Dec.{T}
 use borrow.Author.Tests.{le-leb, lt-leb}
+use Rattle.std.specs.Prelude.{None, Some, Ok, Err}
+use Rattle.std.proofs.lemmas.Option.{none-some}
 use Rattle.language.specs.Limits.{max_text}
-use Rattle.language.specs.Answers.{fault_number}
 use Rattle.language.specs.declared.Fault.{Fault}
 use Rattle.language.specs.declared.Fault.TheVariants.{LongText, StrayMark, Unfinished}
 use Rattle.language.specs.Syntax.{Expr}
 use Rattle.language.specs.Tokens.{Token, faults, Class, blank, quote, opening, closing, semicolon, point, dollar, tick, stray, operating, accessing, comparing, calling, class}
 use Rattle.language.specs.Tokens.{Mode, idle, first, finish, tokens}
-use Rattle.language.specs.Layout.{layout, cleared}
 use Rattle.language.specs.Reading.{refused, accepted, outside, whole, require, starting, ending, parse, read}
-use Rattle.linker.specs.declared.Linked.{Linked}
 use Rattle.assembler.specs.declared.scan.Scanned.{Scanned}
 use Rattle.lexer.specs.Lexing.{MarkAt}
 use Rattle.language.specs.Bytes.{open_byte}
 use Rattle.linker.specs.Linked.{linked}
 use Rattle.assembler.specs.Exits.{linked_cells, Fillable}
 use Rattle.assembler.specs.Scanning.{parsed_from, Scans, stops, ends}
-use Rattle.language.proofs.Answers.{fault-not-zero}
 use Rattle.lexer.proofs.LexingSorts.{is_permission, is_other, a-mark, no-opening, the-opening}
 use Rattle.lexer.proofs.Lexing.{tokens-end, tokens-first}
-
--- a refusal by its number
-abbrev pub refused_as : ℕ → Linked
-refused_as n = record { number = n; table = cleared }
 
 -- ── the length ──────────────────────────────────────────────────────────────────────────────────
 
@@ -40,8 +34,8 @@ read_short : (s : List ℕ) → length s ≤ max_text → read s ≡ parse (toke
 unfolding read require
 read_short s h = simp (le-leb (length s) max_text h)
 
-pub link-long : (s : List ℕ) → max_text < length s → linked (read s) ≡ refused_as (fault_number LongText)
-link-long s h = ap linked (read-long s h)
+pub link-long : (s : List ℕ) → max_text < length s → Err LongText ≡ linked (read s)
+link-long s h = sym (ap linked (read-long s h))
 
 -- ── before the outermost `(` and after the last `)` ─────────────────────────────────────────────
 
@@ -111,51 +105,49 @@ module _ (s : List ℕ) (i : ℕ) (h : i < length s) (byte : get_or s i 0 < 256)
 -- ── up to the outermost `(` ─────────────────────────────────────────────────────────────────────
 
 module _ (s : List ℕ) (short : length s ≤ max_text) where
-  pub link-unskipped : (r : Fault) → tokens s idle ≡ faults r ∷ [] → linked (read s) ≡ refused_as (fault_number r)
-  link-unskipped r e = ap linked (read_short s short ∙ before-fault (tokens s idle) r e)
+  pub link-unskipped : (r : Fault) → tokens s idle ≡ faults r ∷ [] → Err r ≡ linked (read s)
+  link-unskipped r e = sym (ap linked (read_short s short ∙ before-fault (tokens s idle) r e))
 
   module _ (i : ℕ) (skipped : tokens s idle ≡ tokens (drop i s) idle) where
     read_at : read s ≡ parse (tokens (drop i s) idle) outside
     read_at = read_short s short ∙ ap (λ t. parse t outside) skipped
 
-    pub link-empty : length s ≤ i → linked (read s) ≡ refused_as (fault_number Unfinished)
-    link-empty h = ap linked (read_at ∙ before-end s i h)
+    pub link-empty : length s ≤ i → Err Unfinished ≡ linked (read s)
+    link-empty h = sym (ap linked (read_at ∙ before-end s i h))
 
     module _ (h : i < length s) (byte : get_or s i 0 < 256) (mark : MarkAt s i) where
-      pub link-stray : (get_or s i 0 ≡ open_byte → ⊥) → linked (read s) ≡ refused_as (fault_number StrayMark)
-      link-stray n = ap linked (read_at ∙ before-stray s i h byte mark n)
+      pub link-stray : (get_or s i 0 ≡ open_byte → ⊥) → Err StrayMark ≡ linked (read s)
+      link-stray n = sym (ap linked (read_at ∙ before-stray s i h byte mark n))
 
-      pub link-inside : get_or s i 0 ≡ open_byte → linked (read s) ≡ linked (parsed_from s (i + 1))
-      link-inside e = ap linked (read_at ∙ before-open s i h byte mark e)
+      pub link-inside : get_or s i 0 ≡ open_byte → linked (parsed_from s (i + 1)) ≡ linked (read s)
+      link-inside e = sym (ap linked (read_at ∙ before-open s i h byte mark e))
 
 -- ── from the outermost `(` on ───────────────────────────────────────────────────────────────────
 
 module _ (s : List ℕ) (from : ℕ) (z : Scanned) (C : List ℤ) (K L : List ℕ) where
-  pub link-stopped : Scans s from z C K L → (z.pass.fault ≡ 0 → ⊥) → linked (parsed_from s from) ≡ refused_as z.pass.fault
-  link-stopped (stops why p k) n = ap linked p ∙ ap refused_as (sym k)
-  link-stopped (ends w p k r) n = absurd (n k)
+  pub link-stopped : Scans s from z C K L → (r : Fault) → z.pass.fault ≡ Some r → Err r ≡ linked (parsed_from s from)
+  link-stopped (stops why p k) r e = let f : why ≡ r = cc in ap Err (sym f) ∙ sym (ap linked p)
+  link-stopped (ends w p k x) r e = absurd (none-some _ (sym k ∙ e))
 
-  pub link-unskipped-after : Scans s from z C K L → z.pass.fault ≡ 0 → (r : Fault) → tokens (drop z.next s) idle ≡ faults r ∷ []
-      → linked (parsed_from s from) ≡ refused_as (fault_number r)
-  link-unskipped-after (stops why p k) e r q = absurd (fault-not-zero why (sym k ∙ e))
-  link-unskipped-after (ends w p k x) e r q = ap linked (p ∙ after-fault _ r w q)
+  pub link-unskipped-after : Scans s from z C K L → z.pass.fault ≡ None → (r : Fault) → tokens (drop z.next s) idle ≡ faults r ∷ []
+      → Err r ≡ linked (parsed_from s from)
+  link-unskipped-after (stops why p k) e r q = absurd (none-some _ (sym e ∙ k))
+  link-unskipped-after (ends w p k x) e r q = sym (ap linked (p ∙ after-fault _ r w q))
 
   module _ (j : ℕ) (skipped-after : tokens (drop z.next s) idle ≡ tokens (drop j s) idle) where
-    pub link-stray-after : Scans s from z C K L → z.pass.fault ≡ 0 → j < length s → get_or s j 0 < 256 → MarkAt s j
-        → linked (parsed_from s from) ≡ refused_as (fault_number StrayMark)
-    link-stray-after (stops why p k) e l b m = absurd (fault-not-zero why (sym k ∙ e))
-    link-stray-after (ends w p k r) e l b m = ap linked (p ∙ ap (λ t. parse t (whole w)) skipped-after ∙ after-stray s j l b m w)
+    pub link-stray-after : Scans s from z C K L → z.pass.fault ≡ None → j < length s → get_or s j 0 < 256 → MarkAt s j
+        → Err StrayMark ≡ linked (parsed_from s from)
+    link-stray-after (stops why p k) e l b m = absurd (none-some _ (sym e ∙ k))
+    link-stray-after (ends w p k r) e l b m = sym (ap linked (p ∙ ap (λ t. parse t (whole w)) skipped-after ∙ after-stray s j l b m w))
 
-    pub link-whole : Scans s from z C K L → z.pass.fault ≡ 0 → length s ≤ j → (cells : List ℤ) → cells ≡ linked_cells C K L z.pass.used
-        → record { number = 0; table = record { used = z.pass.used; cells = cells } } ≡ linked (parsed_from s from)
-    link-whole (stops why p k) e l cells c = absurd (fault-not-zero why (sym k ∙ e))
+    pub link-whole : Scans s from z C K L → z.pass.fault ≡ None → length s ≤ j → (cells : List ℤ) → cells ≡ linked_cells C K L z.pass.used
+        → Ok (record { used = z.pass.used; cells = cells }) ≡ linked (parsed_from s from)
+    link-whole (stops why p k) e l cells c = absurd (none-some _ (sym e ∙ k))
     link-whole (ends w p k r) e l cells c =
-        sym
-        (ap linked (p ∙ ap (λ t. parse t (whole w)) skipped-after ∙ after-end s j w l)
-        ∙ ap (λ u. record { number = 0; table = record { used = u; cells = (layout w).cells } }) (sym r.all)
-        ∙ ap (λ x. record { number = 0; table = record { used = z.pass.used; cells = x } }) (sym (c ∙ r.cells_are)))
+        (λ i. Ok (record { used = r.all i; cells = (c ∙ r.cells_are) i }))
+        ∙ sym (ap linked (p ∙ ap (λ t. parse t (whole w)) skipped-after ∙ after-end s j w l))
 
   -- what the scan leaves for the second pass
-  pub scanned-ready : Scans s from z C K L → z.pass.fault ≡ 0 → Fillable z.pass.used L
-  scanned-ready (stops why p k) e = absurd (fault-not-zero why (sym k ∙ e))
+  pub scanned-ready : Scans s from z C K L → z.pass.fault ≡ None → Fillable z.pass.used L
+  scanned-ready (stops why p k) e = absurd (none-some _ (sym e ∙ k))
   scanned-ready (ends w p k r) e = record { small = r.small; shallow = r.shallow }

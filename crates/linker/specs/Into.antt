@@ -1,5 +1,5 @@
 -- A text linked into lent places, as C asks for it.
-use Rattle.std.specs.Prelude.{◌≡◌, List, ℕ, ◌≤◌, min, ℤ, length}
+use Rattle.std.specs.Prelude.{List, ℕ, min, ℤ, length}
 use Rattle.std.proofs.Math.Seq.{paste}
 use Rattle.language.specs.Answers.{fault_number}
 use Rattle.language.specs.Layout.{layout}
@@ -21,9 +21,3 @@ links_into n u p = record { number = n; used = u; places = p }
 abbrev pub linked_into : List ℤ → Reading → LinkedInto
 linked_into p (refused r) = links_into (fault_number r) 0 p
 linked_into p (accepted w) = links_into 0 (layout w).used (paste p 0 (layout w).cells (min max_cells (length p)))
-
--- the first n cells of a table fit in the places
-pub record Fits (table places : List ℤ) (n : ℕ) : Type 0 where
-  pub whole : length table ≡ max_cells
-  pub of-table : n ≤ max_cells
-  pub of_places : n ≤ length places

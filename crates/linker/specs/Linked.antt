@@ -1,10 +1,17 @@
 -- What a text links to.
+use Rattle.std.specs.Prelude.{ℕ, Result, Ok, Err}
+use Rattle.language.specs.declared.Fault.{Fault}
+use Rattle.language.specs.declared.Table.{Table}
 use Rattle.language.specs.Answers.{fault_number}
-use Rattle.language.specs.Layout.{layout, cleared}
+use Rattle.language.specs.Layout.{layout}
 use Rattle.language.specs.Reading.{Reading, refused, accepted}
-use Rattle.linker.specs.declared.Linked.{Linked}
 
--- document 01's number and the code table, which is cleared where the text is refused
-abbrev pub linked : Reading → Linked
-linked (refused r) = record { number = fault_number r; table = cleared }
-linked (accepted w) = record { number = 0; table = layout w }
+-- the code table of an accepted text, or the text's first fault
+abbrev pub linked : Reading → Result Table Fault
+linked (refused r) = Err r
+linked (accepted w) = Ok (layout w)
+
+-- document 01's number of a link, 0 where the text is accepted
+abbrev pub link_number : Result Table Fault → ℕ
+link_number (Ok t) = 0
+link_number (Err r) = fault_number r

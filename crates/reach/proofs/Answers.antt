@@ -1,8 +1,8 @@
 -- What the report is, test by test.
 use mathlib.Core.Path.{◌≡◌, refl, ap, ◌∙◌}
 use mathlib.Core.Bool.{true, false, ◌&&◌}
-use mathlib.Core.Option.{Option, none, some}
-use mathlib.Core.List.{List}
+use mathlib.Core.Option.{none, some}
+use mathlib.Core.List.{List, [], ◌∷◌}
 use Prim.Native.Nat.{ℕ, zero, suc, ◌*◌, ◌<◌}
 use lib.IntN.{ℤ}
 use lib.ListN.{set, replicate}
@@ -15,13 +15,13 @@ use Rattle.language.specs.Values.{lawful}
 use Rattle.language.proofs.Tests.{first-true}
 use Rattle.book.specs.declared.Refusal.{Refusal}
 use Rattle.book.specs.declared.Refusal.TheVariants.{NoSuchLetter, NotStanding, BadStore}
-use Rattle.book.specs.Refusals.{refusal_number, first, zero_or, refused_by, text_tests}
+use Rattle.book.specs.Refusals.{refusal_number, first, not_standing, text_tests}
 use Rattle.book.specs.Store.{Store, store_of, sound_store, store_view}
-use Rattle.book.proofs.Refusals.{none-fits}
+use Rattle.book.proofs.Refusals.{opened}
 use Rattle.marks.specs.Formats.{ticked}
-use Rattle.reach.specs.Reach.{called_by, calls, spread_by, most_calls, each_of, readable, reached_by, missing_of, reports, report_of, reach}
-use Rattle.reach.specs.Rounds.{tables, in_array, rows}
-use Rattle.reach.proofs.Calls.{array-calls, rounds-same, start-flags}
+use Rattle.reach.specs.Reach.{called_by, calls, spread_by, most_calls, each_of, readable, reached_by, missing_of, reports, reach}
+use Rattle.reach.specs.Rounds.{tables, in_array, rows, marks_of}
+use Rattle.reach.proofs.Calls.{array-calls, rounds-same, start-marks}
 
 module _ (st : Store) (l : ℕ) (r m : List ℕ) where
   pub store-refused : sound_store st ≡ false → reach st l r m ≡ reports (refusal_number BadStore) r m
@@ -48,32 +48,31 @@ module _ (st : Store) (l : ℕ) (r m : List ℕ) where
         unfolding reach
         given e = rw (sound, letter, stands, e)
 
--- ── by the number that 13, 1 and 10 came to ─────────────────────────────────────────────────────
-
-module _ (st : Store) (l : ℕ) (r m : List ℕ) (n : ℕ) (asked : n ≡ refused_by (text_tests (store_view st) l)) where
-  pub refused : (n ≡ 0 → ⊥) → reports n r m ≡ reach st l r m
-  unfolding reach
-  refused h = go (first (text_tests (store_view st) l)) asked
-    where
-      go : (o : Option Refusal) → n ≡ zero_or o → reports n r m ≡ report_of o (each_of max_letters (readable st)) st l r m
-      go none e = absurd (h e)
-      go (some x) e = ap (λ k. reports k r m) e
-
-  module _ (zero : n ≡ 0) where
-    pub damaged : (k : ℕ) → k ≡ ending_number Damaged → each_of max_letters (readable st) ≡ false → reports k r m ≡ reach st l r m
-    unfolding reach
-    damaged k q e = rw (none-fits (text_tests (store_view st) l) n asked zero, e) (ap (λ z. reports z r m) q)
-
-    pub reported : each_of max_letters (readable st) ≡ true
-        → reports 0 (reached_by st (letter_index l)) (missing_of st.used (reached_by st (letter_index l))) ≡ reach st l r m
-    unfolding reach
-    reported e = rw (none-fits (text_tests (store_view st) l) n asked zero, e)
-
 -- the counts of a sound store
 pub sound-counts : (st : Store) → sound_store st ≡ true → sound_used st.used ≡ true
 unfolding sound_store
 sound-counts st h =
     first-true (sound_used st.used) (sound_permissions st.permissions) (first-true (sound_used st.used && sound_permissions st.permissions) (lawful st.variables) h)
+
+-- ── by what 13, 1 and 10 came to ────────────────────────────────────────────────────────────────
+
+module _ (st : Store) (l : ℕ) (r m : List ℕ) where
+  pub refused : (x : Refusal) → first (text_tests (store_view st) l) ≡ some x → reports (refusal_number x) r m ≡ reach st l r m
+  unfolding reach
+  refused x e = rw e
+
+  module _ (free : first (text_tests (store_view st) l) ≡ none) where
+    pub damaged : each_of max_letters (readable st) ≡ false → reports (ending_number Damaged) r m ≡ reach st l r m
+    unfolding reach
+    damaged e = rw (free, e)
+
+    pub reported : each_of max_letters (readable st) ≡ true
+        → reports 0 (reached_by st (letter_index l)) (missing_of st.used (reached_by st (letter_index l))) ≡ reach st l r m
+    unfolding reach
+    reported e = rw (free, e)
+
+    pub counted : sound_used st.used ≡ true
+    counted = sound-counts st (opened (store_view st) l (not_standing (store_view st) l ∷ []) free).sound
 
 -- what is read of a store's tables depends on its cells and counts alone
 module _ (c : List ℤ) (u k : List ℕ) (v : List ℤ) where
@@ -88,11 +87,11 @@ module _ (c : List ℤ) (u k : List ℕ) (v : List ℤ) where
 
   -- what is followed in the array from a letter's own mark is what it reaches
   pub followed : (d marks : List ℕ) (a : ℕ) → sound_used u ≡ true → a < max_letters → d ≡ rows (tables c u) max_letters
-      → marks ≡ spread_by (in_array d) most_calls (set (replicate max_letters 0) a 1) → marks ≡ reached_by (store_of c u k v) a
+      → marks ≡ spread_by (in_array d) most_calls (marks_of (set (replicate max_letters false) a true)) → marks ≡ reached_by (store_of c u k v) a
   unfolding reached_by
   followed d marks a h lt e f =
       let st = store_of c u k v in
       f
-      ∙ ap (λ x. spread_by (in_array x) most_calls (set (replicate max_letters 0) a 1)) (e ∙ rows-tables max_letters)
-      ∙ ap (λ x. spread_by (in_array (rows st max_letters)) most_calls x) (start-flags a lt)
+      ∙ ap (λ x. spread_by (in_array x) most_calls (marks_of (set (replicate max_letters false) a true))) (e ∙ rows-tables max_letters)
+      ∙ ap (λ x. spread_by (in_array (rows st max_letters)) most_calls x) (start-marks a lt)
       ∙ rounds-same (in_array (rows st max_letters)) (calls st) most_calls _ (array-calls st h)

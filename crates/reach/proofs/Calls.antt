@@ -17,8 +17,9 @@ use Rattle.marks.specs.Marks.{marks, calls_in}
 use Rattle.marks.specs.Formats.{call_places, ticked}
 use Rattle.marks.proofs.Marks.{Letters, marks-letters}
 use Rattle.reach.specs.Reach.{called_by, member, calls, flags_by, is_flagged, any_of, spread, spread_by}
-use Rattle.reach.specs.Rounds.{rows, in_array, Flags}
-use Rattle.reach.proofs.Flags.{flag, flag-back, length-flags, get_or-flags, flags-same, flags_of}
+use Rattle.std.proofs.lemmas.List.{map-set}
+use Rattle.reach.specs.Rounds.{rows, in_array, marks_of}
+use Rattle.reach.proofs.Flags.{flag, flag-back, length-flags, get_or-flags, flags-same}
 use Rattle.reach.proofs.Rounds.{count-bounds, sound-at}
 
 -- ── ticks ───────────────────────────────────────────────────────────────────────────────────────
@@ -141,5 +142,6 @@ start-flags a h =
     go b false q =
         get_or-set_other (replicate {A = ℕ} max_letters 0) a b 1 0 (λ e. eqb-false a b q (sym e)) ∙ replicate-at {A = ℕ} 0 max_letters b ∙ (rw q)
 
-pub start-proper : (a : ℕ) → a < max_letters → Flags (set (replicate max_letters 0) a 1)
-start-proper a h = subst Flags (sym (start-flags a h)) (flags_of (λ b. eqb a b))
+-- of a letter alone in a list
+pub start-marks : (a : ℕ) → a < max_letters → marks_of (set (replicate max_letters false) a true) ≡ flags_by max_letters (λ b. eqb a b)
+start-marks a h = map-set flag (replicate max_letters false) a true ∙ start-flags a h

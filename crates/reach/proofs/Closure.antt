@@ -6,7 +6,7 @@ use mathlib.Core.List.{List, [], ◌∷◌, ◌++◌}
 use Prim.Native.Nat.{ℕ, zero, suc, ◌+◌, ◌-◌, ◌≤◌, ◌<◌}
 use native.Mathlib.Omega.{arith}
 use lib.Dec.{eqb}
-use borrow.Author.Tests.{eq-eqb, eqb-true, eqb-false}
+use borrow.Author.Tests.{eq-eqb, eqb-true}
 use Rattle.language.specs.Limits.{max_letters}
 use Rattle.language.specs.Tables.{sound_used}
 use Rattle.language.proofs.Tests.{both_true, first-true, second-true}
@@ -15,7 +15,7 @@ use Rattle.marks.proofs.Marks.{Letters}
 use Rattle.reach.specs.Reach.{called_by, member, calls, Chain, Reaches, flags_by, is_flagged, any_of, spread, spread_by, most_calls, reached_by}
 use Rattle.reach.specs.Rounds.{Flags}
 use Rattle.reach.proofs.Flags.{flagged-by, flagged-letter, flags_of}
-use Rattle.reach.proofs.Rounds.{or-true, rounds-flags}
+use Rattle.reach.proofs.Rounds.{or-true, any-of, rounds-flags}
 use Rattle.reach.proofs.Calls.{called-letters}
 
 -- ── chains ──────────────────────────────────────────────────────────────────────────────────────
@@ -41,19 +41,6 @@ either_true false v X e f g = g e
 any_some : (n : ℕ) (p : ℕ → Bool) (X : Type 0) → any_of n p ≡ true → ((a : ℕ) → p a ≡ true → X) → X
 any_some zero p X e f = absurd (false≢true e)
 any_some (suc n) p X e f = either_true (any_of n p) (p n) X e (λ k. any_some n p X k f) (λ k. f n k)
-
--- and the other way round
-any-of : (n a : ℕ) (p : ℕ → Bool) → a < n → p a ≡ true → any_of n p ≡ true
-any-of zero a p h e = absurd (omega arith)
-any-of (suc n) a p h e = go (eqb a n) refl (λ k. any-of n a p k e)
-  where
-    right : (u : Bool) → (u || true) ≡ true
-    right true = refl
-    right false = refl
-
-    go : (u : Bool) → eqb a n ≡ u → (a < n → any_of n p ≡ true) → (any_of n p || p n) ≡ true
-    go true q f = ap (λ x. any_of n p || x) (sym (ap p (eqb-true a n q)) ∙ e) ∙ or-true (any_of n p)
-    go false q f = rw (f (let ne = eqb-false a n q in omega (arith, ne)))
 
 member-letter : (l : List ℕ) (b : ℕ) → Letters l → member b l ≡ true → b < max_letters
 member-letter [] b h e = absurd (false≢true e)

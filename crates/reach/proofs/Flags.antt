@@ -5,13 +5,14 @@ use mathlib.Core.List.{List}
 use Prim.Native.Nat.{ℕ, zero, suc, ◌+◌, ◌≤◌, ◌<◌}
 use native.Mathlib.Omega.{arith}
 use native.Mathlib.Nat.{le_of_suc-le-suc}
-use lib.ListN.{length, get_or, set, length-set}
+use lib.ListN.{length, get_or, set, length-set, get_or-map}
+use Rattle.std.proofs.lemmas.List.{length-map}
 use lib.Seq.{ext_get_or, get_or-set_same, get_or-set_other}
 use lib.Dec.{eqb, ltb}
 use borrow.Author.Tests.{eqb-true, eqb-false, ltb-true, ltb-false}
 use Rattle.language.specs.Limits.{max_letters}
 use Rattle.reach.specs.Reach.{flags_by, is_flagged}
-use Rattle.reach.specs.Rounds.{Flags}
+use Rattle.reach.specs.Rounds.{Flags, marks_of}
 
 -- a test as a flag
 abbrev pub flag : Bool → ℕ
@@ -58,46 +59,41 @@ flags-same n p q h =
 pub flags_of : (p : ℕ → Bool) → Flags (flags_by max_letters p)
 flags_of p = flags-same max_letters p (is_flagged (flags_by max_letters p)) (λ b h. sym (flagged-by p b h))
 
--- ── marks that a loop writes one by one ─────────────────────────────────────────────────────────
+-- ── letters that a loop writes one by one ───────────────────────────────────────────────────────
 
--- the first i marks are those of a test
-pub record Flagging (p : ℕ → Bool) (m : List ℕ) (i : ℕ) : Type 0 where
-  pub size : length m ≡ max_letters
+-- a letter of the list is marked
+pub marked : (l : List Bool) (b : ℕ) → is_flagged (marks_of l) b ≡ get_or l b false
+marked l b = ap (λ x. eqb x 1) (get_or-map flag l b false) ∙ flag-back (get_or l b false)
+
+-- the first i letters are those of a test
+pub record Flagging (p : ℕ → Bool) (l : List Bool) (i : ℕ) : Type 0 where
+  pub size : length l ≡ max_letters
   pub few : i ≤ max_letters
-  pub done : (b : ℕ) → b < i → get_or m b 0 ≡ flag (p b)
+  pub done : (b : ℕ) → b < i → get_or l b false ≡ p b
 
-pub flagging-none : (p : ℕ → Bool) (m : List ℕ) → length m ≡ max_letters → Flagging p m 0
-flagging-none p m e = record { size = e; few = omega arith; done = λ b h. absurd (omega arith) }
-
-pub flagging-more : (p : ℕ → Bool) (m : List ℕ) (i v : ℕ) → Flagging p m i → i < max_letters → v ≡ flag (p i) → Flagging p (set m i v) (i + 1)
-flagging-more p m i v k h e =
+pub flagging-more : (p : ℕ → Bool) (l : List Bool) (i : ℕ) (v : Bool) → Flagging p l i → i < max_letters → v ≡ p i → Flagging p (set l i v) (i + 1)
+flagging-more p l i v k h e =
     record {
-      size = length-set m i v ∙ k.size;
+      size = length-set l i v ∙ k.size;
       few = omega arith;
-      done = λ b l. go b l (eqb b i) refl;
+      done = λ b j. go b j (eqb b i) refl;
     }
   where
-    go : (b : ℕ) → b < i + 1 → (u : Bool) → eqb b i ≡ u → get_or (set m i v) b 0 ≡ flag (p b)
-    go b l true q =
+    go : (b : ℕ) → b < i + 1 → (u : Bool) → eqb b i ≡ u → get_or (set l i v) b false ≡ p b
+    go b j true q =
         let z : b ≡ i = eqb-true b i q in
-        subst (λ x. get_or (set m i v) x 0 ≡ flag (p x)) (sym z) (get_or-set_same m i v 0 (omega (arith, k.size)) ∙ e)
-    go b l false q =
+        subst (λ x. get_or (set l i v) x false ≡ p x) (sym z) (get_or-set_same l i v false (omega (arith, k.size)) ∙ e)
+    go b j false q =
         let ne = eqb-false b i q in
-        get_or-set_other m i b v 0 ne ∙ k.done b (omega (arith, ne))
+        get_or-set_other l i b v false ne ∙ k.done b (omega (arith, ne))
 
-pub flagging-done : (p : ℕ → Bool) (m : List ℕ) (i : ℕ) → Flagging p m i → max_letters ≤ i → m ≡ flags_by max_letters p
-flagging-done p m i k h =
-    ext_get_or 0 m (flags_by max_letters p) (k.size ∙ sym (length-flags max_letters p))
-    (λ b l. let j : b < max_letters = subst (λ n. b < n) k.size l in k.done b (omega (arith, k.few)) ∙ sym (get_or-flags max_letters p b j))
-
--- two lists that are the same up to b, and at b
-pub same_more : (x y : List ℕ) (b : ℕ) → ((j : ℕ) → j < b → get_or x j 0 ≡ get_or y j 0) → get_or x b 0 ≡ get_or y b 0
-    → (j : ℕ) → j < b + 1 → get_or x j 0 ≡ get_or y j 0
-same_more x y b h e j l = go (eqb j b) refl
-  where
-    go : (u : Bool) → eqb j b ≡ u → get_or x j 0 ≡ get_or y j 0
-    go true q = subst (λ k. get_or x k 0 ≡ get_or y k 0) (sym (eqb-true j b q)) e
-    go false q = h j (let ne = eqb-false j b q in omega (arith, ne))
+-- all of them
+pub flagging-done : (p q : ℕ → Bool) (l : List Bool) (i : ℕ) → Flagging p l i → max_letters ≤ i → ((b : ℕ) → b < max_letters → p b ≡ q b) → marks_of l ≡ flags_by max_letters q
+flagging-done p q l n k m h =
+    let size : length (marks_of l) ≡ max_letters = length-map l flag ∙ k.size in
+    ext_get_or 0 (marks_of l) (flags_by max_letters q) (size ∙ sym (length-flags max_letters q))
+    (λ b j. let i : b < max_letters = subst (λ n. b < n) size j in
+    get_or-map flag l b false ∙ ap flag (k.done b (omega arith) ∙ h b i) ∙ sym (get_or-flags max_letters q b i))
 
 pub not-not : (u : Bool) → u ≡ not (not u)
 not-not true = refl

@@ -1,12 +1,15 @@
 -- Laws of the rounds, and of the calls of all letters.
 use mathlib.Core.Path.{◌≡◌, refl, sym, ap, ◌∙◌, subst}
-use mathlib.Core.Bool.{Bool, true, false, cond, ◌&&◌, ◌||◌, false≢true}
+use mathlib.Core.Bool.{Bool, true, false, beq, ◌&&◌, ◌||◌, false≢true}
 use mathlib.Core.List.{List, [], ◌∷◌}
 use Prim.Native.Nat.{ℕ, zero, suc, ◌+◌, ◌*◌, ◌≤◌, ◌<◌}
 use native.Mathlib.Omega.{arith}
 use native.Mathlib.Numerals.{add-one}
 use lib.ListN.{get_or}
 use lib.Dec.{eqb}
+use lib.Pointwise.{pointwise}
+use Rattle.std.specs.Cmp.{booleans_Decides}
+use Rattle.std.proofs.lemmas.Slice.Eq.{slice_eq-Decides}
 use borrow.Author.Tests.{ne_eqb, eqb-true, eqb-false}
 use Rattle.language.specs.Limits.{max_letters, max_cells}
 use Rattle.language.specs.Tables.{sound_count, sound_used}
@@ -14,9 +17,9 @@ use Rattle.language.proofs.Between.{between-bounds}
 use Rattle.language.proofs.Tests.{both_true, first-true, second-true}
 use Rattle.book.specs.Store.{Store}
 use Rattle.marks.specs.Formats.{ticked}
-use Rattle.reach.specs.Reach.{called_by, flags_by, is_flagged, any_of, each_of, spread, spread_by, most_calls, readable}
-use Rattle.reach.specs.Rounds.{rows, in_array, Flags, with_row, ReadsAll}
-use Rattle.reach.proofs.Flags.{flagged-by, flags-same, flags_of}
+use Rattle.reach.specs.Reach.{called_by, is_flagged, any_of, each_of, spread, spread_by, most_calls, readable}
+use Rattle.reach.specs.Rounds.{rows, Flags, ReadsAll, marks_of, follows_to}
+use Rattle.reach.proofs.Flags.{flags_of, marked}
 
 -- ── counts ──────────────────────────────────────────────────────────────────────────────────────
 
@@ -88,42 +91,34 @@ module _ (st : Store) (u c : List ℕ) (a : ℕ) (g : Gathering st u c a) where
 
 -- ── a round ─────────────────────────────────────────────────────────────────────────────────────
 
--- tests joined
-or-false : (u : Bool) → u ≡ (u || false)
-or-false true = refl
-or-false false = refl
-
 pub or-true : (u : Bool) → (u || true) ≡ true
 or-true true = refl
 or-true false = refl
 
-or_assoc : (u v w : Bool) → ((u || v) || w) ≡ (u || (v || w))
-or_assoc true v w = refl
-or_assoc false v w = refl
-
--- what is marked, and what the first n letters that are marked call
-abbrev pub spread_to : ℕ → (ℕ → ℕ → Bool) → List ℕ → List ℕ
-spread_to n f m = flags_by max_letters (λ b. is_flagged m b || any_of n (λ a. is_flagged m a && f a b))
-
-pub spread_none : (f : ℕ → ℕ → Bool) (m : List ℕ) → Flags m → m ≡ spread_to 0 f m
-spread_none f m h = h ∙ flags-same max_letters (is_flagged m) _ (λ b _. or-false (is_flagged m b))
-
-pub spread-more : (c : List ℕ) (m next : List ℕ) (a : ℕ) → next ≡ spread_to a (in_array c) m
-    → cond (is_flagged m a) (with_row c (a * max_letters) next) next ≡ spread_to (a + 1) (in_array c) m
-unfolding with_row
-spread-more c m next a e = go (is_flagged m a) refl ∙ ap (λ n. spread_to n (in_array c) m) (sym (add-one a))
+-- where one of them passes, one of them does
+pub any-of : (n a : ℕ) (p : ℕ → Bool) → a < n → p a ≡ true → any_of n p ≡ true
+any-of zero a p h e = absurd (omega arith)
+any-of (suc n) a p h e = go (eqb a n) refl (λ k. any-of n a p k e)
   where
-    go : (u : Bool) → is_flagged m a ≡ u → cond u (with_row c (a * max_letters) next) next ≡ spread_to (suc a) (in_array c) m
-    go true q =
-        ap (λ x. with_row c (a * max_letters) x) e
-        ∙ flags-same max_letters _ _ (λ b h.
-        ap (λ x. x || in_array c a b) (flagged-by (λ b. is_flagged m b || any_of a (λ k. is_flagged m k && in_array c k b)) b h)
-        ∙ or_assoc (is_flagged m b) (any_of a (λ k. is_flagged m k && in_array c k b)) (in_array c a b)
-        ∙ ap (λ x. is_flagged m b || (any_of a (λ k. is_flagged m k && in_array c k b) || (x && in_array c a b))) (sym q))
-    go false q =
-        e ∙ flags-same max_letters _ _ (λ b h.
-        ap (λ x. is_flagged m b || x) (or-false (any_of a (λ k. is_flagged m k && in_array c k b)))
-        ∙ ap (λ x. is_flagged m b || (any_of a (λ k. is_flagged m k && in_array c k b) || (x && in_array c a b))) (sym q))
+    go : (u : Bool) → eqb a n ≡ u → (a < n → any_of n p ≡ true) → (any_of n p || p n) ≡ true
+    go true q f = ap (λ x. any_of n p || x) (sym (ap p (eqb-true a n q)) ∙ e) ∙ or-true (any_of n p)
+    go false q f = rw (f (let ne = eqb-false a n q in omega (arith, ne)))
+
+-- the same letters, by their marks
+pub followed-marks : (f : ℕ → ℕ → Bool) (l : List Bool) (b : ℕ)
+    → follows_to f l b ≡ (is_flagged (marks_of l) b || any_of max_letters (λ a. is_flagged (marks_of l) a && f a b))
+followed-marks f l b = λ i. sym (marked l b) i || any_of max_letters (λ a. sym (marked l a) i && f a b)
+
+-- a letter that is none of them, and that none of them calls
+pub follows-none : (f : ℕ → ℕ → Bool) (l : List Bool) (b n : ℕ) → get_or l b false ≡ false → any_of n (λ a. get_or l a false && f a b) ≡ false
+    → n ≡ max_letters → false ≡ follows_to f l b
+follows-none f l b n e h z =
+    sym (ap (λ u. u || any_of max_letters (λ a. get_or l a false && f a b)) e ∙ subst (λ k. any_of k (λ a. get_or l a false && f a b) ≡ false) z h)
+
+-- a letter that one of them calls
+pub follows-one : (f : ℕ → ℕ → Bool) (l : List Bool) (b a : ℕ) → a < max_letters → get_or l a false ≡ true → f a b ≡ true → true ≡ follows_to f l b
+follows-one f l b a h e k =
+    sym (ap (λ u. get_or l b false || u) (any-of max_letters a (λ a. get_or l a false && f a b) h (rw (e, k))) ∙ or-true (get_or l b false))
 
 -- ── round after round ───────────────────────────────────────────────────────────────────────────
 
@@ -146,46 +141,24 @@ rounds-still f n (suc k) m e h = go (eqb (suc k) n) refl (λ j. rounds-still f n
     go true q g = ap (λ x. spread_by f x m) (eqb-true (suc k) n q)
     go false q g = ap (spread f) (g (let ne = eqb-false (suc k) n q in omega (arith, ne))) ∙ e
 
+-- two lists of letters that `==` finds equal
+pub equal : (l m : List Bool) → pointwise beq l m ≡ true → l ≡ m
+equal l m e = (slice_eq-Decides booleans_Decides l m (pointwise beq l m) refl).0 e
+
 -- n rounds are done
 pub record Following (f : ℕ → ℕ → Bool) (start m : List ℕ) (n : ℕ) : Type 0 where
-  pub proper : Flags start
   pub few : n ≤ most_calls
   pub reached : m ≡ spread_by f n start
 
 module _ (f : ℕ → ℕ → Bool) (start m : List ℕ) (n : ℕ) (g : Following f start m n) where
-  pub following-flags : Flags m
-  following-flags = subst Flags (sym g.reached) (rounds-flags f n start g.proper)
-
   pub following-more : (next : List ℕ) → n < most_calls → next ≡ spread f m → Following f start next (n + 1)
   unfolding spread_by
-  following-more next h e =
-      subst (Following f start next) (sym (add-one n))
-      (record { proper = g.proper; few = omega arith; reached = e ∙ ap (spread f) g.reached })
+  following-more next h e = subst (Following f start next) (sym (add-one n)) (record { few = omega arith; reached = e ∙ ap (spread f) g.reached })
 
-  pub following-still : (next : List ℕ) → next ≡ spread f m → m ≡ next → m ≡ spread_by f (most_calls) start
+  pub following-still : (next : List ℕ) → next ≡ spread f m → next ≡ m → m ≡ spread_by f (most_calls) start
   following-still next e s =
       g.reached
-      ∙ sym (rounds-still f n (most_calls) start (ap (spread f) (sym g.reached) ∙ sym e ∙ sym s ∙ g.reached) g.few)
+      ∙ sym (rounds-still f n (most_calls) start (ap (spread f) (sym g.reached) ∙ sym e ∙ s ∙ g.reached) g.few)
 
   pub following-done : most_calls ≤ n → m ≡ spread_by f (most_calls) start
   following-done h = g.reached ∙ ap (λ k. spread_by f k start) (let k = g.few in let z : n ≡ most_calls = omega arith in z)
-
--- ── a round so far ──────────────────────────────────────────────────────────────────────────────
-
--- the letters before a have been gone through
-pub record Spreading (c m x : List ℕ) (a : ℕ) : Type 0 where
-  pub few : a ≤ max_letters
-  pub next : x ≡ spread_to a (in_array c) m
-
-pub spreading-none : (c m : List ℕ) → Flags m → Spreading c m m 0
-spreading-none c m h = record { few = omega arith; next = spread_none (in_array c) m h }
-
-pub spreading-more : (c m next more : List ℕ) (a : ℕ) → Spreading c m next a → a < max_letters
-    → more ≡ cond (is_flagged m a) (with_row c (a * max_letters) next) next → Spreading c m more (a + 1)
-spreading-more c m next more a s h e = record { few = omega arith; next = e ∙ spread-more c m next a s.next }
-
-pub spreading-done : (c m next : List ℕ) (a : ℕ) → Spreading c m next a → max_letters ≤ a → next ≡ spread (in_array c) m
-unfolding spread
-spreading-done c m next a s h =
-    let e : a ≡ max_letters = let f = s.few in omega arith in
-    s.next ∙ ap (λ n. spread_to n (in_array c) m) e

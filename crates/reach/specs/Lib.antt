@@ -2,3 +2,4 @@ pub mod Reach
 pub mod Rounds
 pub mod Claims
 pub mod Examples
+pub mod Errors

@@ -1,10 +1,10 @@
 -- What the code's functions answer: the calls of all letters in one array, and marks that go round by round.
-use Rattle.std.specs.Prelude.{◌≡◌, ℕ, zero, suc, ◌+◌, ◌*◌, ◌<◌, Bool, true, cond, ◌||◌, ◌&&◌, List, [], ℤ, get_or, replicate, eqb}
+use Rattle.std.specs.Prelude.{◌≡◌, ℕ, zero, suc, ◌+◌, ◌*◌, ◌<◌, Bool, true, false, cond, ◌||◌, ◌&&◌, List, [], map, ℤ, get_or, replicate}
 use Rattle.language.specs.Limits.{max_letters}
 use Rattle.language.specs.Tables.{sound_count, sound_used}
 use Rattle.book.specs.Store.{Store, store_of}
 use Rattle.marks.specs.Formats.{call_places, ticked}
-use Rattle.reach.specs.Reach.{called_by, flags_by, is_flagged, each_of, readable}
+use Rattle.reach.specs.Reach.{called_by, flags_by, is_flagged, any_of, each_of, readable}
 
 -- ── the calls of all letters ────────────────────────────────────────────────────────────────────
 
@@ -47,14 +47,10 @@ pub record ReadsAll (st : Store) (r : Bool) (after : List ℕ) : Type 0 where
 abbrev pub Flags : List ℕ → Type 0
 Flags m = m ≡ flags_by max_letters (is_flagged m)
 
--- one of two marks, or both
-abbrev pub either_flag : ℕ → ℕ → ℕ
-either_flag x y = cond (eqb x 1 || eqb y 1) 1 0
+-- the marks of letters, 1 where the list says true
+abbrev pub marks_of : List Bool → List ℕ
+marks_of l = map (λ u. cond u 1 0) l
 
--- what is marked, and the row of the array that starts at place `from`
-unfoldable pub with_row : List ℕ → ℕ → List ℕ → List ℕ
-with_row c from m = flags_by max_letters (λ b. is_flagged m b || is_flagged c (from + b))
-
--- a mark without a text: u is the letter's used-cell count
-abbrev pub missing_flag : ℕ → ℕ → ℕ
-missing_flag x u = cond (eqb x 1 && eqb u 0) 1 0
+-- letter b is one of the list, or called by one, where f says which letter calls which
+abbrev pub follows_to : (ℕ → ℕ → Bool) → List Bool → ℕ → Bool
+follows_to f l b = get_or l b false || any_of max_letters (λ a. get_or l a false && f a b)

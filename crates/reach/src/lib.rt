@@ -1,17 +1,59 @@
 // What a letter can reach: which letters it may call, through however many others, and which of those have no text.
 #![tactic(auto)]
 
-ghost use Rattle.std.specs.Prelude.{◌≡◌, true, cond, eqb};
+ghost use Rattle.std.specs.Prelude.{◌≡◌, ◌<◌, ◌&&◌};
+ghost use Rattle.language.specs.Limits.{max_letters};
 ghost use Rattle.book.specs.Store.{store_of};
-ghost use Rattle.marks.specs.Formats.{Row};
+ghost use Rattle.reach.specs.Errors.{error_number, reach_number};
 ghost use Rattle.reach.specs.Reach.{spread, spread_by, most_calls, missing_of, reports, reach};
-ghost use Rattle.reach.specs.Rounds.{tables, in_array, Counted, ReadsOne, Clear, ReadsAll, Flags, either_flag, with_row, missing_flag};
+ghost use Rattle.reach.specs.Rounds.{tables, in_array, Counted, ReadsOne, Clear, ReadsAll, marks_of, follows_to};
+ghost use Rattle.reach.specs.declared.ReachError.TheVariants.{Refused};
 
+use admission::View;
+use book::Refusal;
 use language::{Ending, LETTERS, STORE_CELLS, Table, VARIABLES};
 use marks::CALLS;
 
 // A chain that comes to no letter twice has no more calls than this.
 const MOST_CALLS: usize = LETTERS - 1;
+
+// Why there is no report of a letter: "13, 1, 10 in that order, then 29".
+#[derive(Clone, Copy, Debug, PartialEq, Eq)]
+pub enum ReachError {
+    Refused(Refusal),
+    Damaged,
+}
+
+impl ReachError {
+    // The documents' number.
+    pub fn number(self) -> u32
+        ensures { result ≡ error_number self }
+    {
+        match self {
+            ReachError::Refused(refusal) => refusal.number(),
+            ReachError::Damaged => Ending::Damaged.number(),
+        }
+    }
+}
+
+impl From<Refusal> for ReachError {
+    ghost from_gives = { λ r e. e ≡ Refused r };
+
+    // A call that is refused like any other.
+    fn from(refusal: Refusal) -> ReachError {
+        ReachError::Refused(refusal)
+    }
+}
+
+// 0, or the number of the error.
+pub fn reach_number(answer: Result<(), ReachError>) -> u32
+    ensures { result ≡ reach_number answer }
+{
+    match answer {
+        Ok(()) => 0,
+        Err(error) => error.number(),
+    }
+}
 
 // ── the calls of all letters ────────────────────────────────────────────────────────────────────
 
@@ -37,127 +79,80 @@ fn read_all(cells: &[i32; STORE_CELLS], used: &[usize; LETTERS], calls: &mut [u8
     requires { Clear used.now calls.old }
     ensures { ReadsAll (tables cells.now used.now) result calls.new }
 {
-    let mut letter: usize = 0;
-    while letter < LETTERS {
+    for letter in 0..LETTERS {
         if !read_one(cells, used, letter, calls) {
             return false; // damage
         }
-        letter += 1;
     }
     true
 }
 
-// ── flags ───────────────────────────────────────────────────────────────────────────────────────
+// ── the letters that are reached ────────────────────────────────────────────────────────────────
 
-// One of two flags, or both.
-fn either(x: u8, y: u8) -> u8
-    ensures { result ≡ either_flag x y }
+// A call further: whether letter `b` is one of those reached, or is called by one of them.
+fn follows(calls: &[u8; CALLS], reached: &[bool; LETTERS], b: usize) -> bool
+    requires { b < max_letters }
+    ensures { result ≡ follows_to (in_array calls.now) reached.now b }
 {
-    if x == 1 {
-        return 1;
+    if reached[b] {
+        return true;
     }
-    if y == 1 { 1 } else { 0 }
-}
-
-// What is flagged, and what the row of the calls that starts at `from` has.
-fn with_row(calls: &[u8; CALLS], from: usize, flags: [u8; LETTERS]) -> [u8; LETTERS]
-    requires { Row from }
-    ensures { result ≡ with_row calls.now from flags }
-{
-    let mut next = flags;
-    let mut b: usize = 0;
-    while b < LETTERS {
-        next[b] = either(flags[b], calls[from + b]);
-        b += 1;
-    }
-    next
-}
-
-// The same where the letter whose row it is has a flag, else what is flagged.
-fn with_row_if(calls: &[u8; CALLS], from: usize, flag: u8, flags: [u8; LETTERS]) -> [u8; LETTERS]
-    requires { Row from }
-    ensures { result ≡ cond (eqb flag 1) (with_row calls.now from flags) flags }
-{
-    if flag == 1 {
-        return with_row(calls, from, flags);
-    }
-    flags
-}
-
-// A call further: what is flagged, and what a flagged letter calls.
-fn spread(calls: &[u8; CALLS], flags: [u8; LETTERS]) -> [u8; LETTERS]
-    requires { Flags flags }
-    ensures { result ≡ spread (in_array calls.now) flags }
-{
-    let mut next = flags;
-    let mut a: usize = 0;
-    while a < LETTERS {
-        let more = with_row_if(calls, a * LETTERS, flags[a], next);
-        next = more;
-        a += 1;
-    }
-    next
-}
-
-// Two arrays of flags are the same.
-fn same(x: [u8; LETTERS], y: [u8; LETTERS]) -> bool
-    ensures { result ≡ true → x ≡ y }
-{
-    let mut b: usize = 0;
-    while b < LETTERS {
-        if x[b] != y[b] {
-            return false;
+    for a in 0..LETTERS {
+        if reached[a] && calls[a * LETTERS + b] == 1 {
+            return true;
         }
-        b += 1;
     }
-    true
+    false
 }
 
-// All that is reached from what is flagged.
-fn follow(calls: &[u8; CALLS], flags: [u8; LETTERS]) -> [u8; LETTERS]
-    requires { Flags flags }
-    ensures { result ≡ spread_by (in_array calls.now) most_calls flags }
+// The same of every letter.
+fn spread(calls: &[u8; CALLS], reached: &[bool; LETTERS]) -> [bool; LETTERS]
+    ensures { marks_of result ≡ spread (in_array calls.now) (marks_of reached.now) }
 {
-    let mut reached = flags;
-    let mut n: usize = 0;
-    while n < MOST_CALLS {
-        let next = spread(calls, reached);
-        if same(reached, next) {
+    let mut next = [false; LETTERS];
+    for b in 0..LETTERS {
+        next[b] = follows(calls, reached, b);
+    }
+    next
+}
+
+// All that is reached from these letters.
+fn follow(calls: &[u8; CALLS], start: [bool; LETTERS]) -> [bool; LETTERS]
+    ensures { marks_of result ≡ spread_by (in_array calls.now) most_calls (marks_of start) }
+{
+    let mut reached = start;
+    for _n in 0..MOST_CALLS {
+        let next = spread(calls, &reached);
+        if next == reached {
             return reached;
         }
         reached = next;
-        n += 1;
     }
     reached
 }
 
-// A flag of a letter without a text.
-fn missing_flag(x: u8, end: usize) -> u8
-    ensures { result ≡ missing_flag x end }
+// The letters reached that have no text.
+fn without_text(used: &[usize; LETTERS], reached: &[bool; LETTERS]) -> [bool; LETTERS]
+    ensures { marks_of result ≡ missing_of used.now (marks_of reached.now) }
 {
-    if x != 1 {
-        return 0;
-    }
-    if end == 0 { 1 } else { 0 }
-}
-
-// The flagged letters that have no text.
-fn without_text(used: &[usize; LETTERS], flags: [u8; LETTERS]) -> [u8; LETTERS]
-    ensures { result ≡ missing_of used.now flags }
-{
-    let mut missing = flags;
-    let mut b: usize = 0;
-    while b < LETTERS {
-        missing[b] = missing_flag(flags[b], used[b]);
-        b += 1;
+    let mut missing = [false; LETTERS];
+    for b in 0..LETTERS {
+        missing[b] = reached[b] && used[b] == 0;
     }
     missing
 }
 
+// The marks of these letters: 1, and of every other 0.
+fn marks(letters: [bool; LETTERS]) -> [u8; LETTERS]
+    ensures { result ≡ marks_of letters }
+{
+    letters.map(|letter| u8::from(letter))
+}
+
 // ── the report ──────────────────────────────────────────────────────────────────────────────────
 
-// The letters that a letter reaches, and those of them that have no text, marked 1 in the two arrays: 0. Where the call is refused, the number of the
-// refusal, and both arrays stay as they were: "13, 1, 10 in that order, then 29".
+// The letters that a letter reaches, and those of them that have no text, marked 1 in the two arrays. Where there is no report, both arrays stay as they
+// were.
 pub fn reach(
     cells: &[i32; STORE_CELLS],
     used: &[usize; LETTERS],
@@ -166,23 +161,26 @@ pub fn reach(
     letter: u32,
     reached: &mut [u8; LETTERS],
     missing: &mut [u8; LETTERS],
-) -> u32
-    ensures { reports result reached.new missing.new
+) -> Result<(), ReachError>
+    ensures { reports (reach_number result) reached.new missing.new
         ≡ reach (store_of cells.now used.now permissions.now vars.now) letter reached.old missing.old }
 {
-    let number = admission::text(used, permissions, vars, letter);
-    if number != 0 {
-        return number;
-    }
+    let view = View {
+        used,
+        permissions,
+        vars,
+    };
+    view.text(letter)?;
     let a = admission::index(letter);
-    let mut calls = [0u8; CALLS];
+    // The array is what `marks::read` ticks, in flags of 0 and 1.
+    let mut calls = [0; CALLS];
     if !read_all(cells, used, &mut calls) {
-        return Ending::Damaged.number();
+        return Err(ReachError::Damaged);
     }
-    let mut start = [0u8; LETTERS];
-    start[a] = 1;
-    let flags = follow(&calls, start);
-    *reached = flags;
-    *missing = without_text(used, flags);
-    0
+    let mut start = [false; LETTERS];
+    start[a] = true;
+    let found = follow(&calls, start);
+    *reached = marks(found);
+    *missing = marks(without_text(used, &found));
+    Ok(())
 }

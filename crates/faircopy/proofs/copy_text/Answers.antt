@@ -1,28 +1,25 @@
 -- `copy_text` meets its contract. The loop's invariant: what is written, and what the steps will write of the rest, are the fair copy.
 use native.Mathlib.Omega.{arith}
-use Rattle.faircopy.proofs.StepsLoop.{copying-none, copying-stands, copying-further, copying-more, copying-done}
+use Rattle.faircopy.proofs.StepsLoop.{copying-none, copying-fits, copying-fewer, copying-more, copying-done}
 use Rattle.faircopy.proofs.copy_text.Goals as goal
 
-pub loop-from-init : goal.loop-from-init
-loop-from-init c w h = copying-none _ _ w h
+pub loop-left-init : goal.loop-left-init
+loop-left-init c w h = copying-none _ _ w h
 
-pub copy_step-m-requires : goal.copy_step-m-requires
-copy_step-m-requires c =
+pub copy_step-moved-requires : goal.copy_step-moved-requires
+copy_step-moved-requires c =
     let p = c.requires in
-    copying-stands _ _ p.expression p.reads p.room _ _ _ (c.loop-from.invariant p.expression p.reads) c.loop-from-test.true
+    copying-fits _ _ p.expression p.reads p.room c.loop-left.left.now _ _ (c.loop-left.invariant p.expression p.reads) c.in-len1-up.len_at_least
 
-pub loop-from-smaller : goal.loop-from-smaller
-loop-from-smaller c =
+pub loop-left-smaller : goal.loop-left-smaller
+loop-left-smaller c =
     let p = c.requires in
-    let f = copying-further _ _ p.expression p.reads p.room _ _ _ (c.loop-from.invariant p.expression p.reads) c.loop-from-test.true _ _ c.copy_step-m.ensures in
-    omega (arith, f, c.loop-from-test.true)
+    copying-fewer _ _ p.expression p.reads p.room c.loop-left.left.now _ _ (c.loop-left.invariant p.expression p.reads) c.in-len1-up.len_at_least _ _ c.copy_step-moved.ensures
 
-pub loop-from-preserved : goal.loop-from-preserved
-loop-from-preserved c w h =
-    copying-more _ _ w h c.requires.room _ _ _ (c.loop-from.invariant w h) c.loop-from-test.true _ _ c.copy_step-m.ensures (omega (arith, c.before))
-
-pub shape_of-out : goal.shape_of-out
-shape_of-out c = let p = c.requires in (c.loop-from.invariant p.expression p.reads).size
+pub loop-left-preserved : goal.loop-left-preserved
+loop-left-preserved c w h =
+    copying-more _ _ w h c.requires.room c.loop-left.left.now _ _ (c.loop-left.invariant w h) c.in-len1-up.len_at_least _ _ c.copy_step-moved.ensures
+    (omega arith)
 
 pub returns : goal.returns
-returns c w h = copying-done _ _ w h c.requires.room _ _ _ (c.loop-from.invariant w h) c.loop-from-test.false
+returns c w h = copying-done _ _ w h c.requires.room c.loop-left.left.now _ _ (c.loop-left.invariant w h) (omega arith)

@@ -1,12 +1,11 @@
--- `past_zeros` meets its contract. The loop's invariant: as many zeros are left as the contract says.
+-- `past_zeros` meets its contract. The loop's invariant: after their leading zeros, what is left and the whole text are the same.
 use mathlib.Core.Path.{◌≡◌}
-use Prim.Native.Nat.{◌+◌, ◌-◌}
 use lib.ListN.{length, drop}
 use Rattle.faircopy.specs.Steps.{zeros}
 use Rattle.faircopy.proofs.past_zeros.Given as goal
 
-abbrev pub invariant-loop-i : goal.invariant-loop-i
-invariant-loop-i l = l.i + zeros (drop l.i l.text) ≡ l.from + zeros (drop l.from l.text)
+abbrev pub invariant-loop-rest : goal.invariant-loop-rest
+invariant-loop-rest l = drop (zeros l.rest) l.rest ≡ drop (zeros l.text) l.text
 
-abbrev pub decreases-loop-i : goal.decreases-loop-i
-decreases-loop-i l = length l.text - l.i
+abbrev pub decreases-loop-rest : goal.decreases-loop-rest
+decreases-loop-rest l = length l.rest

@@ -1,23 +1,29 @@
 -- `lent::define` meets its contract.
-use Rattle.language.proofs.Letters.{letter-lt}
-use Rattle.lent.proofs.LentCalls.{define-letter, define-early, define-refused, define-accepted}
+use mathlib.Core.Path.{◌≡◌}
+use Rattle.std.specs.Prelude.{Ok, Err}
+use borrow.Author.Rules.{rules}
+use Rattle.book.specs.declared.Refusal.TheVariants.{BadText}
+use Rattle.book.specs.Store.{Store, store_of}
+use Rattle.lent.proofs.LentCalls.{define-refused, define-faulty, define-accepted}
 use Rattle.lent.proofs.define.Goals as goal
 
-pub returns-then-number-ne0 : goal.returns-then-number-ne0
-returns-then-number-ne0 c = define-early _ c.args.letter c.args.permission _ _ (c.define-number.ensures c.args.cells.now) c.if-number-ne0.true
+pub returns-in_err-define : goal.returns-in_err-define
+returns-in_err-define c =
+    let a = c.args in
+    let st : Store = store_of a.cells.now a.used.now a.permissions.now a.vars.now in
+    let e : c.from_residual.result ≡ Err c.in_err-define.field-0.0 = search rules in
+    rw e (define-refused st a.letter a.permission a.text.now _ (c.in_err-define.ensures.decides a.cells.now))
 
-pub index-k-requires : goal.index-k-requires
-index-k-requires c = define-letter _ c.args.letter c.args.permission c.args.text.now _ (c.define-number.ensures c.args.cells.now) c.if-number-ne0.false
-
-pub returns-then-l-ne0 : goal.returns-then-l-ne0
-returns-then-l-ne0 c =
-    define-refused _ c.args.letter c.args.permission _ _ (c.define-number.ensures c.args.cells.now) c.if-number-ne0.false _ c.link-l.ensures c.if-l-ne0.true
-
-pub put-requires : goal.put-requires
-put-requires c =
-    rw c.index-k.ensures (letter-lt _ (define-letter _ c.args.letter c.args.permission c.args.text.now _ (c.define-number.ensures c.args.cells.now) c.if-number-ne0.false))
+pub returns-in_err-table : goal.returns-in_err-table
+returns-in_err-table c =
+    let a = c.args in
+    let st : Store = store_of a.cells.now a.used.now a.permissions.now a.vars.now in
+    let e : c.from_residual-in_err-table.result ≡ Err (BadText c.in_err-table.field-0.0) = search rules in
+    rw e (define-faulty st a.letter a.permission a.text.now (c.in_ok-define.ensures.decides a.cells.now) _ c.in_err-table.ensures)
 
 pub returns : goal.returns
 returns c =
-    define-accepted _ c.args.letter c.args.permission _ _ (c.define-number.ensures c.args.cells.now) c.if-number-ne0.false _ c.link-l.ensures _ c.if-l-ne0.false
-    (rw c.index-k.ensures at (c.put.ensures c.args.vars.now))
+    let a = c.args in
+    let st : Store = store_of a.cells.now a.used.now a.permissions.now a.vars.now in
+    define-accepted st a.letter a.permission a.text.now (c.in_ok-define.ensures.decides a.cells.now) _ c.in_ok-table.table c.in_ok-table.ensures
+    (rw c.index-k.ensures at (c.put.ensures a.vars.now))

@@ -1,7 +1,9 @@
 -- `lent::put` meets its contract.
+use native.Mathlib.Omega.{arith}
+use Rattle.std.proofs.lemmas.Slice.{put_mid-paste}
 use Rattle.book.specs.Store.{with_entry}
 use Rattle.lent.proofs.put.Goals as goal
 
 pub returns : goal.returns
 unfolding with_entry
-returns c = λ v. rw c.copy_table.ensures
+returns c = λ v. grind (arith, put_mid-paste)

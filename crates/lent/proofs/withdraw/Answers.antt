@@ -1,19 +1,20 @@
 -- `lent::withdraw` meets its contract.
-use Rattle.language.proofs.Letters.{letter-lt}
-use Rattle.lent.proofs.LentCalls.{withdraw-letter, withdraw-refused, withdraw-accepted}
+use mathlib.Core.Path.{◌≡◌}
+use Rattle.std.specs.Prelude.{Err}
+use borrow.Author.Rules.{rules}
+use Rattle.book.specs.Store.{Store, store_of}
+use Rattle.lent.proofs.LentCalls.{withdraw-refused, withdraw-accepted}
 use Rattle.lent.proofs.withdraw.Goals as goal
 
-pub returns-then-number-ne0 : goal.returns-then-number-ne0
-returns-then-number-ne0 c = withdraw-refused _ c.args.letter _ (c.text-number.ensures c.args.cells.now) c.if-number-ne0.true
-
-pub index-k-requires : goal.index-k-requires
-index-k-requires c = withdraw-letter _ c.args.letter _ (c.text-number.ensures c.args.cells.now) c.if-number-ne0.false
-
-pub put-requires : goal.put-requires
-put-requires c =
-    rw c.index-k.ensures (letter-lt _ (withdraw-letter _ c.args.letter _ (c.text-number.ensures c.args.cells.now) c.if-number-ne0.false))
+pub returns-in_err-text : goal.returns-in_err-text
+returns-in_err-text c =
+    let a = c.args in
+    let st : Store = store_of a.cells.now a.used.now a.permissions.now a.vars.now in
+    let e : c.from_residual.result ≡ Err c.in_err-text.field-0.0 = search rules in
+    rw e (withdraw-refused st a.letter _ (c.in_err-text.ensures.decides a.cells.now))
 
 pub returns : goal.returns
 returns c =
-    withdraw-accepted _ c.args.letter _ (c.text-number.ensures c.args.cells.now) _ _ c.if-number-ne0.false c.fresh.ensures
-    (rw c.index-k.ensures at (c.put.ensures c.args.vars.now))
+    let a = c.args in
+    let st : Store = store_of a.cells.now a.used.now a.permissions.now a.vars.now in
+    withdraw-accepted st a.letter _ (c.in_ok-text.ensures.decides a.cells.now) (rw (c.index-k.ensures, c.fresh.ensures) at (c.put.ensures a.vars.now))

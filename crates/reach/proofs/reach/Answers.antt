@@ -1,73 +1,40 @@
 -- `reach::reach` meets its contract.
-use mathlib.Core.Path.{refl, sym, ap, ◌∙◌}
-use mathlib.Core.List.{[], ◌∷◌}
+use mathlib.Core.Path.{◌≡◌, refl, sym, ap, ◌∙◌}
+use Rattle.std.specs.Prelude.{Err}
+use borrow.Author.Rules.{rules}
 use Rattle.language.proofs.Letters.{letter-lt}
-use Rattle.book.specs.Refusals.{not_standing, text_tests}
-use Rattle.book.specs.Store.{Store, store_of, store_view}
-use Rattle.book.proofs.Refusals.{none-fits, Opened, opened}
+use Rattle.book.specs.Store.{Store, store_of}
+use Rattle.reach.specs.declared.ReachError.TheVariants.{Refused}
 use Rattle.reach.specs.Reach.{missing_of, reports}
-use Rattle.reach.proofs.Calls.{start-proper}
-use Rattle.reach.proofs.Answers.{refused, damaged, reported, sound-counts, readable-tables, followed}
+use Rattle.reach.proofs.Answers.{refused, damaged, reported, counted, readable-tables, followed}
 use Rattle.reach.proofs.reach.Goals as goal
 
-pub returns-then-number-ne0 : goal.returns-then-number-ne0
-returns-then-number-ne0 c =
-    let st : Store = store_of c.args.cells.now c.args.used.now c.args.permissions.now c.args.vars.now in
-    refused st c.args.letter _ _ _ (c.text-number.ensures c.args.cells.now) c.if-number-ne0.true
-
-pub index-a-requires : goal.index-a-requires
-index-a-requires c =
-    let st : Store = store_of c.args.cells.now c.args.used.now c.args.permissions.now c.args.vars.now in
-    let admitted : Opened (store_view st) c.args.letter =
-    let v = store_view st in
-    let l = c.args.letter in
-    opened v l (not_standing v l ∷ []) (none-fits (text_tests v l) _ (c.text-number.ensures c.args.cells.now) c.if-number-ne0.false) in
-    admitted.letter
+pub returns-in_err-text : goal.returns-in_err-text
+returns-in_err-text c =
+    let a = c.args in
+    let st : Store = store_of a.cells.now a.used.now a.permissions.now a.vars.now in
+    let e : c.from_residual.result ≡ Err (Refused c.in_err-text.field-0.0) = search rules in
+    rw e (refused st a.letter _ _ _ (c.in_err-text.ensures.decides a.cells.now))
 
 pub read_all-requires : goal.read_all-requires
 read_all-requires c =
-    let st : Store = store_of c.args.cells.now c.args.used.now c.args.permissions.now c.args.vars.now in
-    let admitted : Opened (store_view st) c.args.letter =
-    let v = store_view st in
-    let l = c.args.letter in
-    opened v l (not_standing v l ∷ []) (none-fits (text_tests v l) _ (c.text-number.ensures c.args.cells.now) c.if-number-ne0.false) in
-    record { counts = sound-counts st admitted.sound; array = refl }
+    let a = c.args in
+    let st : Store = store_of a.cells.now a.used.now a.permissions.now a.vars.now in
+    record { counts = counted st a.letter a.reached.now a.missing.now (c.in_ok-text.ensures.decides a.cells.now); array = refl }
 
 pub returns-then-not-read_all : goal.returns-then-not-read_all
 returns-then-not-read_all c =
-    let st : Store = store_of c.args.cells.now c.args.used.now c.args.permissions.now c.args.vars.now in
-    damaged st c.args.letter _ _ _ (c.text-number.ensures c.args.cells.now) c.if-number-ne0.false _ c.number.ensures
-    (sym (readable-tables _ _ _ _) ∙ sym c.read_all.ensures.sound ∙ c.if-not-read_all.true)
-
-pub bounds-start-a : goal.bounds-start-a
-bounds-start-a c =
-    let st : Store = store_of c.args.cells.now c.args.used.now c.args.permissions.now c.args.vars.now in
-    let admitted : Opened (store_view st) c.args.letter =
-    let v = store_view st in
-    let l = c.args.letter in
-    opened v l (not_standing v l ∷ []) (none-fits (text_tests v l) _ (c.text-number.ensures c.args.cells.now) c.if-number-ne0.false) in
-    rw c.index-a.ensures (letter-lt _ admitted.letter)
-
-pub follow-flags-requires : goal.follow-flags-requires
-follow-flags-requires c =
-    let st : Store = store_of c.args.cells.now c.args.used.now c.args.permissions.now c.args.vars.now in
-    let admitted : Opened (store_view st) c.args.letter =
-    let v = store_view st in
-    let l = c.args.letter in
-    opened v l (not_standing v l ∷ []) (none-fits (text_tests v l) _ (c.text-number.ensures c.args.cells.now) c.if-number-ne0.false) in
-    start-proper c.index-a.result (rw c.index-a.ensures (letter-lt _ admitted.letter))
+    let a = c.args in
+    let st : Store = store_of a.cells.now a.used.now a.permissions.now a.vars.now in
+    damaged st a.letter _ _ (c.in_ok-text.ensures.decides a.cells.now) (sym (readable-tables _ _ _ _) ∙ sym c.read_all.ensures.sound ∙ c.if-not-read_all.true)
 
 pub returns : goal.returns
 returns c =
-    let st : Store = store_of c.args.cells.now c.args.used.now c.args.permissions.now c.args.vars.now in
-    let admitted : Opened (store_view st) c.args.letter =
-    let v = store_view st in
-    let l = c.args.letter in
-    opened v l (not_standing v l ∷ []) (none-fits (text_tests v l) _ (c.text-number.ensures c.args.cells.now) c.if-number-ne0.false) in
-    let m = followed c.args.cells.now c.args.used.now c.args.permissions.now c.args.vars.now _ _ c.index-a.result
-    (sound-counts st admitted.sound) (rw c.index-a.ensures (letter-lt _ admitted.letter))
-    (c.read_all.ensures.calls c.if-not-read_all.false) c.follow-flags.ensures in
-    (λ j. reports 0 (m j) ((c.without_text.ensures ∙ ap (missing_of c.args.used.now) m) j))
-    ∙ (rw c.index-a.ensures
-    (reported st c.args.letter _ _ _ (c.text-number.ensures c.args.cells.now) c.if-number-ne0.false
-    (sym (readable-tables _ _ _ _) ∙ sym c.read_all.ensures.sound ∙ c.if-not-read_all.false)))
+    let a = c.args in
+    let st : Store = store_of a.cells.now a.used.now a.permissions.now a.vars.now in
+    let free = c.in_ok-text.ensures.decides a.cells.now in
+    let m = followed a.cells.now a.used.now a.permissions.now a.vars.now _ _ c.index-a.result
+    (counted st a.letter a.reached.now a.missing.now free) (rw c.index-a.ensures (letter-lt _ c.in_ok-text.ensures.letter))
+    (c.read_all.ensures.calls c.if-not-read_all.false) c.follow-found.ensures in
+    (λ j. reports 0 ((c.marks.ensures ∙ m) j) ((c.marks-2.ensures ∙ c.without_text.ensures ∙ ap (missing_of a.used.now) m) j))
+    ∙ (rw c.index-a.ensures (reported st a.letter _ _ free (sym (readable-tables _ _ _ _) ∙ sym c.read_all.ensures.sound ∙ c.if-not-read_all.false)))

@@ -15,12 +15,6 @@ read_one-requires c = record { letter = omega arith; count = sound-at _ _ c.loop
 pub returns-then-not-read_one : goal.returns-then-not-read_one
 returns-then-not-read_one c = gathering-damaged _ _ _ _ c.loop-letter.invariant _ (omega arith) (sym c.read_one.ensures.sound ∙ c.if-not-read_one.true)
 
-pub overflow_add-letter : goal.overflow_add-letter
-overflow_add-letter c = omega arith
-
-pub loop-letter-smaller : goal.loop-letter-smaller
-loop-letter-smaller c = omega arith
-
 pub loop-letter-preserved : goal.loop-letter-preserved
 loop-letter-preserved c = gathering-more _ _ _ _ c.loop-letter.invariant _ (omega arith) (sym c.read_one.ensures.sound ∙ c.if-not-read_one.false) c.read_one.ensures.calls
 

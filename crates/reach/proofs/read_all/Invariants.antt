@@ -1,12 +1,7 @@
 -- `reach::read_all` meets its contract.
-use Prim.Native.Nat.{◌-◌}
-use Rattle.language.specs.Limits.{max_letters}
 use Rattle.reach.specs.Rounds.{tables}
 use Rattle.reach.proofs.Rounds.{Gathering}
 use Rattle.reach.proofs.read_all.Given as goal
 
 abbrev pub invariant-loop-letter : goal.invariant-loop-letter
 invariant-loop-letter l = Gathering (tables l.cells l.used) l.used l.calls l.letter
-
-abbrev pub decreases-loop-letter : goal.decreases-loop-letter
-decreases-loop-letter l = max_letters - l.letter

@@ -1,11 +1,7 @@
 -- `reach::spread` meets its contract.
-use Prim.Native.Nat.{◌-◌}
-use Rattle.language.specs.Limits.{max_letters}
-use Rattle.reach.proofs.Rounds.{Spreading}
+use Rattle.reach.specs.Rounds.{in_array, follows_to}
+use Rattle.reach.proofs.Flags.{Flagging}
 use Rattle.reach.proofs.spread.Given as goal
 
-abbrev pub invariant-loop-a : goal.invariant-loop-a
-invariant-loop-a l = Spreading l.calls l.flags l.next l.a
-
-abbrev pub decreases-loop-a : goal.decreases-loop-a
-decreases-loop-a l = max_letters - l.a
+abbrev pub invariant-loop-b : goal.invariant-loop-b
+invariant-loop-b l = Flagging (λ b. follows_to (in_array l.calls) l.reached b) l.next l.b

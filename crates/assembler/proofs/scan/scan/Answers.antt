@@ -1,5 +1,5 @@
 -- `scan` meets its contract: the parser, from the outermost `(` on, is where the pass is, and no text is refused yet.
-use Rattle.assembler.proofs.Scanning.{start, starts-out, bounds, next-outcome, fine, not_end, scans-refused, scans-whole}
+use Rattle.assembler.proofs.Scanning.{start, starts-out, bounds, next-outcome, fine, not_end, scans-refused, scans-whole, some-refused, none-refused}
 use Rattle.emitter.specs.Drafts.{level_places, Draft, draft}
 use Rattle.language.specs.Limits.{max_cells}
 use Rattle.language.specs.Layout.{first_cell, code_start}
@@ -36,19 +36,19 @@ take-p-requires c =
       fine = fine c.args.text.now n.result.token _ _ n.ensures.means;
     }
 
-pub returns-then-p-ne0 : goal.returns-then-p-ne0
-returns-then-p-ne0 c =
+pub returns-then-is_some : goal.returns-then-is_some
+returns-then-is_some c =
     let a = c.args in
     let l = c.loop-p in
     let n = c.next_token-r in
     let o = next-outcome a.text.now _ _ n.result.token _ (draft l.p l.cells l.kinds l.levels l.starts) l.invariant.goes_on l.invariant.sound c.loop-p-test.true n.ensures.means in
-    scans-refused a.text.now a.from n.result.next _ _ _ _ _ (subst (With a.text.now a.from n.result.next) (sym c.take-p.ensures) o) c.if-p-ne0.true
+    scans-refused a.text.now a.from n.result.next _ _ _ _ _ (subst (With a.text.now a.from n.result.next) (sym c.take-p.ensures) o) (some-refused _ (sym c.is_some.ensures ∙ c.if-is_some.true))
 
 pub loop-p-smaller : goal.loop-p-smaller
 loop-p-smaller c =
     let l = c.loop-p in
     let n = c.next_token-r in
-    let e = not_end c.args.text.now n.result.token (draft l.p l.cells l.kinds l.levels l.starts) (sym (ap (λ d. d.fault) c.take-p.ensures) ∙ c.if-p-ne0.false) in
+    let e = not_end c.args.text.now n.result.token (draft l.p l.cells l.kinds l.levels l.starts) (sym (ap (λ d. d.fault) c.take-p.ensures) ∙ none-refused _ (sym c.is_some.ensures ∙ c.if-is_some.false)) in
     omega (arith, n.ensures.further e, n.ensures.inside e)
 
 pub loop-p-preserved : goal.loop-p-preserved
@@ -57,7 +57,7 @@ loop-p-preserved c =
     let l = c.loop-p in
     let n = c.next_token-r in
     let o = next-outcome a.text.now _ _ n.result.token _ (draft l.p l.cells l.kinds l.levels l.starts) l.invariant.goes_on l.invariant.sound c.loop-p-test.true n.ensures.means in
-    record { sound = c.if-p-ne0.false; goes_on = subst (With a.text.now a.from n.result.next) (sym c.take-p.ensures) o }
+    record { sound = none-refused _ (sym c.is_some.ensures ∙ c.if-is_some.false); goes_on = subst (With a.text.now a.from n.result.next) (sym c.take-p.ensures) o }
 
 pub returns : goal.returns
 returns c =

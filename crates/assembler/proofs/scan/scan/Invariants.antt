@@ -8,6 +8,7 @@ use lib.ListN.{length, drop}
 use Prim.Native.Nat.{ℕ, ◌-◌}
 use mathlib.Core.List.{List}
 use mathlib.Core.Path.{◌≡◌}
+use Rattle.std.specs.Prelude.{None}
 use Rattle.assembler.proofs.scan.scan.Given as goal
 
 -- the parser is where the draft d is, at place `at`
@@ -15,7 +16,7 @@ abbrev pub With : List ℕ → ℕ → ℕ → Draft → Type 0
 With s from at d = Outcome (parsed_from s from) (tokens (drop at s) idle) d
 
 pub record Going (s : List ℕ) (from at : ℕ) (p : Pass) (d : Draft) : Type 0 where
-  pub sound : p.fault ≡ 0
+  pub sound : p.fault ≡ None
   pub goes_on : With s from at d
 
 abbrev pub invariant-loop-p : goal.invariant-loop-p

@@ -1,8 +1,0 @@
--- `lent::fresh` meets its contract.
-use mathlib.Core.Path.{refl}
-use Rattle.book.specs.Store.{fresh_store}
-use Rattle.lent.proofs.fresh.Goals as goal
-
-pub returns : goal.returns
-unfolding fresh_store
-returns c = refl
