@@ -80,6 +80,7 @@ fn is_due(held: usize, person: bool, steps: u32) -> bool
 }
 
 // The desk's store, the bytes of the line so far, the answers that wait, and whether a person types.
+// The memory is fixed: the answers that wait are the first bytes of an array, and `Advance` says how many.
 #[derive(Drop)]
 struct Desk {
     store: Store,
@@ -96,6 +97,7 @@ impl Desk {
         ensures served { Serves part.now (progress (stored self.old.store) place self.old.line)
             (advances (progress (stored self.new.store) result.place self.new.line) result.taken result.printed self.new.out) }
     {
+        // a step says how many bytes it took, and their sum is what `Serves` speaks of
         let mut at: usize = 0;
         let mut held: usize = 0;
         let mut steps: u32 = 0;
