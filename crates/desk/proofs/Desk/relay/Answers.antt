@@ -2,7 +2,7 @@
 use mathlib.Core.Path.{refl}
 use mathlib.Core.List.{[]}
 use native.Mathlib.Omega.{arith}
-use Rattle.desk.proofs.Input.{rest-size, relaying-more, relays-some, relays-all}
+use Rattle.desk.proofs.Input.{rest-size, relaying-more, relays-some}
 use Rattle.desk.proofs.Desk.relay.Goals as goal
 
 pub loop-at-init : goal.loop-at-init
