@@ -1,5 +1,5 @@
 -- The desk's input in parts.
-use mathlib.Core.Path.{◌≡◌, refl, sym, ap, ◌∙◌, subst}
+use mathlib.Core.Path.{◌≡◌, refl, sym, ap, ◌∙◌}
 use mathlib.Core.Bool.{false}
 use mathlib.Core.List.{List, ◌++◌, append_assoc}
 use Prim.Native.Nat.{ℕ, ◌+◌, ◌-◌, ◌≤◌, ◌<◌, min}
@@ -113,12 +113,6 @@ pub record Relaying (s : List ℕ) (p : Progress Store) (at : ℕ) (p' : Progres
   pub day : (rest : List ℕ) → day_from store_call p (s ++ rest) ≡ bytes ++ day_from store_call p' (drop at s ++ rest)
 
 module _ (s : List ℕ) (p : Progress Store) (at : ℕ) (p' : Progress Store) (l o : List ℕ) (q : Relaying s p at p' l o) where
-  -- the whole part
-  pub relays-all : length s ≤ at → Relays s p p' (length s)
-  relays-all h =
-      let e : at ≡ length s = omega (arith, q.inside) in
-      subst (λ n. Relays s p p' n) e (record { inside = q.inside; bytes = q.bytes; day = q.day })
-
   -- steps over the rest of the part
   module _ (x : Advanced) (e : Serves (rest_of s at) p' x) where
     inside : at + x.taken ≤ length s
