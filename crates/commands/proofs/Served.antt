@@ -76,26 +76,33 @@ changed-printed st st' k n c o o' r e p =
     ∙ ap (λ (x : Answered Store). printed o (serves x.kept (columns (Printed.plain_columns k x.reply.report.number)))) e
 
 -- a run that left the store st', the list p and the output o, and reported r
-module _ (st st' : Store) (k l n : ℕ) (i p : List ℤ) (o : List ℕ) (r : Report)
+module _ (st st' : Store) (l n : ℕ) (i p : List ℤ) (o : List ℕ) (r : Report)
     (e : answered st' r p o ≡ store_call st (running l cashier_role n i (replicate max_height (pos 0)) (replicate output_bytes 0))) where
-  pub bounded : Bounded output_bytes (record { report = r; list = p; output = o; variables = st'.variables })
+  bounded : Bounded output_bytes (record { report = r; list = p; output = o; variables = st'.variables })
   bounded =
       let lent : List ℕ = replicate output_bytes 0 in
       let x : Run = record { letter = l; role = cashier_role; allowance = n; inputs = i; list = replicate max_height (pos 0); output = lent } in
       subst (λ m. Bounded m (record { report = r; list = p; output = o; variables = st'.variables })) (length-replicate {A = ℕ} output_bytes 0)
       (subst (λ (y : Answered Store). Bounded (length lent) y.reply) (sym e) (run-bounded st x))
 
-  pub run-printed : (b : List ℕ) (v : ℤ) {m s : ℕ} {b₁ b₂ : List ℕ} → paper_bytes ≤ length b → r.written ≤ length o → v ≡ top p r.height
+  -- its output and its list are within what was lent
+  pub short : r.written ≤ output_bytes
+  short = bounded.written
+
+  pub low : r.height ≤ max_height
+  low = bounded.height
+
+  pub run-printed : (k : ℕ) (b : List ℕ) (v : ℤ) {m s : ℕ} {b₁ b₂ : List ℕ} → paper_bytes ≤ length b → r.written ≤ length o → v ≡ top p r.height
       → wrote m b₁ ≡ written b 0 (columns (record { line = k; answer = r.number; truth = r.truth; steps = r.steps; height = r.height; top = v }))
       → wrote s b₂ ≡ written b₁ m (paper (take r.written o))
       → performs st' s b₂ ≡ printed b (granted store_call st k (run l n i))
   unfolding granted shown
-  run-printed b v room w g h q =
+  run-printed k b v room w g h q =
       let f : LineColumns = record { line = k; answer = r.number; truth = r.truth; steps = r.steps; height = r.height; top = v } in
       let most = columns-most f in
       let size = paper-most (take r.written o) in
       let len = length-take-le r.written o w in
-      let z = bounded.written in
+      let z = short in
       (λ j. record { store = st'; paper = written-two b 0 (columns f) (paper (take r.written o)) h q (omega arith) j })
       ∙ ap (λ (y : ℤ). printed b (serves st' (columns (record { line = k; answer = r.number; truth = r.truth; steps = r.steps; height = r.height; top = y }) ++ paper (take r.written o)))) g
       ∙ ap (λ (x : Answered Store). printed b (serves x.kept (columns (ran_columns k x.reply) ++ paper (take x.reply.report.written x.reply.output)))) e

@@ -1,15 +1,18 @@
-// One desk line over a store whose arrays the caller lends: the call it asks for, done, and the bytes that it prints.
+// One desk line over a store that the caller lends: the call it asks for, done, and the bytes that it prints.
 #![tactic(auto)]
 
 ghost use Rattle.std.specs.Prelude.{◌≡◌, ◌≤◌, length};
 ghost use Rattle.numerals.specs.Numerals.{wrote, written};
 ghost use Rattle.columns.specs.Printed.{columns, plain_columns};
-ghost use Rattle.book.specs.Store.{store_of, store_call};
+ghost use Rattle.book.specs.Store.{store_call};
+ghost use Rattle.engine.specs.Stored.{stored};
 ghost use Rattle.lines.specs.Lines.{run};
 ghost use Rattle.commands.specs.Served.{paper_bytes, granted, printed, performs, performed};
 
+use book::answer_number;
 use columns::{LineColumns, top, write_columns, write_output};
-use language::{CASHIER, HEIGHT, LETTERS, OPEN, STORE_CELLS, VARIABLES};
+use engine::Store;
+use language::{CASHIER, HEIGHT, OPEN};
 use lines::{BAD_LINE, Command, FIELD_START, INPUTS, parse};
 
 // "a run's output (4,096 bytes lent)"
@@ -35,10 +38,7 @@ fn tell(paper: &mut [u8], line: u32, answer: u32) -> usize
 
 // `R` letter allowance inputs: "`R` runs as a cashier".
 fn execute(
-    cells: &[i32; STORE_CELLS],
-    used: &[usize; LETTERS],
-    permissions: &[u32; LETTERS],
-    vars: &mut [i32; VARIABLES],
+    store: &mut Store,
     line: u32,
     letter: u32,
     allowance: u32,
@@ -46,17 +46,16 @@ fn execute(
     paper: &mut [u8],
 ) -> usize
     requires { paper_bytes ≤ length paper.old }
-    ensures { performs (store_of cells.now used.now permissions.now vars.new) result paper.new
-        ≡ printed paper.old (granted store_call (store_of cells.now used.now permissions.now vars.old) line
-        (run letter allowance inputs.now)) }
+    ensures { performs (stored store.new) result paper.new
+        ≡ printed paper.old (granted store_call (stored store.old) line (run letter allowance inputs.now)) }
 {
     let mut list = [0i32; HEIGHT];
     let mut output = [0u8; OUTPUT];
     let report = runner::run(
-        cells,
-        used,
-        permissions,
-        vars,
+        &store.cells,
+        &store.used,
+        &store.permissions,
+        &mut store.vars,
         letter,
         CASHIER,
         allowance,
@@ -65,7 +64,6 @@ fn execute(
         &mut output,
     );
     let height = report.height;
-    let count = report.written;
     let f = LineColumns {
         line,
         answer: report.number,
@@ -75,58 +73,51 @@ fn execute(
         top: top(&list, height),
     };
     let end = write_columns(paper, 0, f);
-    write_output(paper, end, &output[..count])
+    write_output(paper, end, &output[..report.written])
 }
 
 // One desk line, without its newline: what it prints stands at the start of the paper, and the answer is how many bytes that is. A paper without room
 // for any line has nothing done and nothing printed.
-pub fn perform(
-    cells: &mut [i32; STORE_CELLS],
-    used: &mut [usize; LETTERS],
-    permissions: &mut [u32; LETTERS],
-    vars: &mut [i32; VARIABLES],
-    number: u32,
-    line: &[u8],
-    paper: &mut [u8],
-) -> usize
-    ensures { performs (store_of cells.new used.new permissions.new vars.new) result paper.new
-        ≡ performed (store_of cells.old used.old permissions.old vars.old) number line.now paper.old }
+pub fn perform(store: &mut Store, number: u32, line: &[u8], paper: &mut [u8]) -> usize
+    ensures { performs (stored store.new) result paper.new ≡ performed (stored store.old) number line.now paper.old }
 {
     if paper.len() < PAPER {
         return 0;
     }
     let mut inputs = [0i32; INPUTS];
-    let command = parse(line, &mut inputs);
-    match command {
-        Command::Define(letter) => {
+    match parse(line, &mut inputs) {
+        Some(Command::Define(letter)) => {
             let answer = lent::define(
-                cells,
-                used,
-                permissions,
-                vars,
-                letter as u32,
+                &mut store.cells,
+                &mut store.used,
+                &mut store.permissions,
+                &store.vars,
+                u32::from(letter),
                 OPEN,
                 &line[FIELD_START..],
             );
-            tell(paper, number, answer)
+            tell(paper, number, answer_number(answer))
         }
-        Command::Withdraw(letter) => {
-            let answer = lent::withdraw(cells, used, permissions, vars, letter as u32);
-            tell(paper, number, answer)
+        Some(Command::Withdraw(letter)) => {
+            let answer = lent::withdraw(
+                &mut store.cells,
+                &mut store.used,
+                &mut store.permissions,
+                &store.vars,
+                u32::from(letter),
+            );
+            tell(paper, number, answer_number(answer))
         }
-        Command::Run(letter, allowance, count) => {
+        Some(Command::Run(letter, allowance, count)) => {
             execute(
-                cells,
-                used,
-                permissions,
-                vars,
+                store,
                 number,
-                letter as u32,
+                u32::from(letter),
                 allowance,
                 &inputs[..count],
                 paper,
             )
         }
-        Command::Bad => tell(paper, number, BAD_LINE),
+        None => tell(paper, number, BAD_LINE),
     }
 }

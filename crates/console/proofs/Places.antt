@@ -1,14 +1,18 @@
 -- The steps over what the caller lends.
 use mathlib.Core.Path.{◌≡◌, refl, sym, ap, ◌∙◌, subst}
-use mathlib.Core.Bool.{Bool, true, false, cond, ◌&&◌}
+use mathlib.Core.Bool.{Bool, true, false, cond, ◌&&◌, true≢false}
 use mathlib.Core.List.{List, [], ◌++◌, append-nil}
 use Prim.Native.Nat.{ℕ, suc, ◌+◌, ◌*◌, ◌-◌, ◌≤◌, ◌<◌, min}
-use native.Mathlib.Numerals.{add-one}
+use native.Mathlib.Numerals.{add-one, one-add}
 use native.Mathlib.Omega.{arith}
-use lib.ListN.{length, get_or, take, drop, length-take, drop_of_length-le}
-use lib.Seq.{paste, paste-zero, length-paste, take-paste, take_all, take-take, take-length, length-take-le, take-append-le, take-append-add, drop-cons}
-use lib.Dec.{leb, ltb}
-use borrow.Author.Tests.{leb-true, leb-false, le-leb, lt-leb, lt-ltb, le-ltb, eq-eqb, ne_eqb}
+use lib.ListN.{length, take, length-take, drop}
+use lib.Seq.{paste, paste-zero, length-paste, take-paste, take_all, take-take, take-length, length-take-le, take-append-le, take-append-add}
+use lib.Dec.{leb, ltb, eqb}
+use borrow.Author.Tests.{leb-true, leb-false, le-leb, lt-ltb, le-ltb, ltb-false}
+use Rattle.std.proofs.Common.{Option, Some, None, ◌⊎◌, inl, inr}
+use Rattle.std.specs.List.{position, position_or_len}
+use Rattle.std.specs.Option.{unwrap_or}
+use Rattle.std.proofs.lemmas.List.Recursion.{is_position_or_len}
 use Rattle.language.specs.Bytes.{newline_byte}
 use Rattle.numerals.specs.Numerals.{Written, wrote, written}
 use Rattle.numerals.proofs.Numerals.{written-room}
@@ -17,34 +21,26 @@ use Rattle.commands.specs.Served.{paper_bytes, performs, performed}
 use Rattle.commands.proofs.Served.{line-most, performed-room}
 use Rattle.console.specs.Day.{max_lines, Progress, day_from}
 use Rattle.console.specs.Steps.{line_end, kept_bytes, Stepped, line_done, line_grown, step_of, end_of}
-use Rattle.console.specs.Places.{Advanced, advances, on_paper, advanced, Steps, Ends, Keeps}
+use Rattle.console.specs.Places.{Advanced, advances, on_paper, has_room, advanced, Steps, Ends, Keeps}
+use Rattle.console.proofs.Day.{line-end-le}
 use Rattle.console.proofs.Steps.{step-cases, step-continues, Takes, step-takes, end-continues}
 
 -- ── the end of a line ───────────────────────────────────────────────────────────────────────────
 
--- the first i bytes of the part s are no newlines
-pub record Seeking (s : List ℕ) (i : ℕ) : Type 0 where
-  pub inside : i ≤ length s
-  pub same : line_end s ≡ i + line_end (drop i s)
-
-module _ (s : List ℕ) (i : ℕ) (h : i < length s) where
-  pub sought : Seeking s i → get_or s i 0 ≡ newline_byte → i ≡ line_end s
-  unfolding line_end
-  sought q e =
-      let z : line_end (drop i s) ≡ 0 = rw (drop-cons s i 0 h, eq-eqb (get_or s i 0) newline_byte e) in
-      omega (arith, q.same)
-
-  pub seeks-on : Seeking s i → (get_or s i 0 ≡ newline_byte → ⊥) → Seeking s (i + 1)
-  unfolding line_end
-  seeks-on q e =
-      let z : line_end (drop i s) ≡ suc (line_end (drop (suc i) s)) = rw (drop-cons s i 0 h, ne_eqb (get_or s i 0) newline_byte e) in
-      record { inside = omega arith; same = rw (add-one i) (omega (arith, q.same)) }
-
-pub sought-all : (s : List ℕ) (i : ℕ) → length s ≤ i → Seeking s i → i ≡ line_end s
+-- the first newline is sought
+line-end-position : (s : List ℕ) → line_end s ≡ position_or_len (λ b. eqb b newline_byte) s
 unfolding line_end
-sought-all s i h q =
-    let z : line_end (drop i s) ≡ 0 = rw (drop_of_length-le s h) in
-    omega (arith, q.same)
+line-end-position s = is_position_or_len line_end (λ b. eqb b newline_byte) refl (λ b t. ap (cond (eqb b newline_byte) 0) (sym (one-add (line_end t)))) s
+
+pub line-end-found : (s : List ℕ) (r : Option ℕ) → r ≡ position (λ b. eqb b newline_byte) s → unwrap_or r (length s) ≡ line_end s
+line-end-found s r e = ap (λ (x : Option ℕ). unwrap_or x (length s)) e ∙ go (ltb n (length s)) refl
+  where
+    n : ℕ
+    n = position_or_len (λ b. eqb b newline_byte) s
+
+    go : (u : Bool) → ltb n (length s) ≡ u → unwrap_or (cond u (Some n) None) (length s) ≡ line_end s
+    go true h = sym (line-end-position s)
+    go false h = omega (arith, ltb-false n (length s) h, line-end-position s, line-end-le s)
 
 -- ── the line so far ─────────────────────────────────────────────────────────────────────────────
 
@@ -99,6 +95,17 @@ module _ (l : List ℕ) (k : ℕ) (b : List ℕ) (room : kept_bytes ≤ length l
 pub kept-all : (l : List ℕ) (k n : ℕ) → kept_bytes ≤ length l → n ≡ min k kept_bytes → take n l ≡ take kept_bytes (take k l)
 kept-all l k n room e =
     sym (append-nil (take n l)) ∙ kept-bytes l k [] room n 0 e (omega arith) ∙ ap (take kept_bytes) (append-nil (take k l))
+
+-- what room for any line is
+room-both : (u v : Bool) → (u && v) ≡ true → (u ≡ true) × (v ≡ true)
+room-both true v e = (refl, e)
+room-both false v e = absurd (true≢false (sym e))
+
+pub room-line : (l o : List ℕ) → has_room l o ≡ true → kept_bytes ≤ length l
+room-line l o e = leb-true kept_bytes (length l) (room-both (leb kept_bytes (length l)) (leb paper_bytes (length o)) e).0
+
+room-paper : (l o : List ℕ) → has_room l o ≡ true → paper_bytes ≤ length o
+room-paper l o e = leb-true paper_bytes (length o) (room-both (leb kept_bytes (length l)) (leb paper_bytes (length o)) e).1
 
 -- ── over the paper ──────────────────────────────────────────────────────────────────────────────
 
@@ -158,23 +165,18 @@ module _ (p : Progress Store) where
       go false = omega arith
 
   module _ (l o : List ℕ) where
-    -- a buffer too small for any line
-    pub short-line : (x : Stepped) → length l < kept_bytes → advances p 0 0 o ≡ advanced l o p x
+    -- there is no room for any line
+    pub short : (x : Stepped) → has_room l o ≡ false → advances p 0 0 o ≡ advanced l o p x
     unfolding advanced
-    short-line x h = sym (rw (lt-leb kept_bytes (length l) h))
+    short x h = sym (rw h)
 
-    pub short-paper : (x : Stepped) → length o < paper_bytes → advances p 0 0 o ≡ advanced l o p x
+    -- there is room
+    roomy : (x : Stepped) → has_room l o ≡ true → on_paper o x ≡ advanced l o p x
     unfolding advanced
-    short-paper x h = sym (rw (lt-leb paper_bytes (length o) h) (go (leb kept_bytes (length l))))
-      where
-        go : (u : Bool) → cond (u && false) (on_paper o x) (advances p 0 0 o) ≡ advances p 0 0 o
-        go true = refl
-        go false = refl
+    roomy x h = sym (rw h)
 
-    -- there is room for any line
-    roomy : (x : Stepped) → kept_bytes ≤ length l → paper_bytes ≤ length o → on_paper o x ≡ advanced l o p x
-    unfolding advanced
-    roomy x room long = sym (rw (le-leb kept_bytes (length l) room, le-leb paper_bytes (length o) long))
+    room-for : kept_bytes ≤ length l → paper_bytes ≤ length o → has_room l o ≡ true
+    room-for room long = rw (le-leb kept_bytes (length l) room, le-leb paper_bytes (length o) long)
 
     step-day : (s rest : List ℕ)
         → let y = advanced l o p (step_of p s) in
@@ -209,14 +211,14 @@ module _ (p : Progress Store) where
           day = λ room long.
               end-continues p
               ∙ sym (paper-start o (end_of p).bytes (omega (arith, end-most)))
-              ∙ ap (λ (y : Advanced). take y.printed y.paper) (roomy (end_of p) room long ∙ sym e);
+              ∙ ap (λ (y : Advanced). take y.printed y.paper) (roomy (end_of p) (room-for room long) ∙ sym e);
           does = e;
         }
 
     -- what else a caller needs of a step, where there is room for any line
     pub goes : (s : List ℕ) (x : Advanced) → kept_bytes ≤ length l → paper_bytes ≤ length o → Steps l o s p x → Goes o s p x
     goes s x room long e =
-        subst (λ (y : Advanced). Goes o s p y) (roomy (step_of p s) room long ∙ sym e.does)
+        subst (λ (y : Advanced). Goes o s p y) (roomy (step_of p s) (room-for room long) ∙ sym e.does)
         (record {
           takes = step-takes p s;
           little = step-most s;
@@ -228,17 +230,17 @@ module _ (p : Progress Store) where
     -- and of the end
     pub end_goes : (x : Advanced) → kept_bytes ≤ length l → paper_bytes ≤ length o → Ends l o p x → Leaves o x
     end_goes x room long e =
-        subst (λ (y : Advanced). Leaves o y) (roomy (end_of p) room long ∙ sym e.does)
+        subst (λ (y : Advanced). Leaves o y) (roomy (end_of p) (room-for room long) ∙ sym e.does)
         (record {
           little = end-most;
           paper = length-paste o 0 (end_of p).bytes (length (end_of p).bytes) (omega (arith, end-most)) (omega arith);
         })
 
     -- where there is room for any line
-    module _ (room : kept_bytes ≤ length l) (long : paper_bytes ≤ length o) where
+    module _ (room : has_room l o ≡ true) where
       -- nothing is printed
       grows : (x : Stepped) (a : List ℕ) (n : ℕ) → x ≡ line_grown p a n → advances (record { kept = p.kept; done = p.done; line = a }) n 0 o ≡ advanced l o p x
-      grows x a n e = ap (advances (record { kept = p.kept; done = p.done; line = a }) n 0) (paste-zero o 0 []) ∙ ap (on_paper o) (sym e) ∙ roomy x room long
+      grows x a n e = ap (advances (record { kept = p.kept; done = p.done; line = a }) n 0) (paste-zero o 0 []) ∙ ap (on_paper o) (sym e) ∙ roomy x room
 
       -- a line is done
       does-line : (x : Stepped) (a : List ℕ) (n m : ℕ) (st : Store) (o' : List ℕ) → x ≡ line_done p a n
@@ -246,9 +248,9 @@ module _ (p : Progress Store) where
           → advances (record { kept = st; done = p.done + 1; line = [] }) n m o' ≡ advanced l o p x
       unfolding line_done
       does-line x a n m st o' e f =
-          let z = rw (add-one p.done) at (f ∙ performed-room p.kept (p.done + 1) a o long) in
+          let z = rw (add-one p.done) at (f ∙ performed-room p.kept (p.done + 1) a o (room-paper l o room)) in
           (λ i. advances (record { kept = (z i).store; done = add-one p.done i; line = [] }) n (z i).paper.next (z i).paper.buffer)
-          ∙ ap (on_paper o) (sym e) ∙ roomy x room long
+          ∙ ap (on_paper o) (sym e) ∙ roomy x room
 
       pub steps-past : (s : List ℕ) → max_lines ≤ p.done → advances p (length s) 0 o ≡ advanced l o p (step_of p s)
       unfolding step_of
@@ -280,10 +282,18 @@ module _ (p : Progress Store) where
           does-line (end_of p) a 0 m st o'
           (rw (lt-ltb p.done max_lines h, lt-ltb 0 (length p.line) g) (ap (λ (b : List ℕ). line_done p b 0) (sym e))) f
 
-      pub ends-past : max_lines ≤ p.done → advances p 0 0 o ≡ advanced l o p (end_of p)
+      ends-past : max_lines ≤ p.done → advances p 0 0 o ≡ advanced l o p (end_of p)
       unfolding end_of
       ends-past h = grows (end_of p) p.line 0 (rw (le-ltb p.done max_lines h))
 
-      pub ends-empty : length p.line ≡ 0 → p.done < max_lines → advances p 0 0 o ≡ advanced l o p (end_of p)
+      ends-empty : length p.line ≡ 0 → p.done < max_lines → advances p 0 0 o ≡ advanced l o p (end_of p)
       unfolding end_of
       ends-empty h g = grows (end_of p) p.line 0 (rw (lt-ltb p.done max_lines g, le-ltb 0 (length p.line) (omega arith)))
+
+    -- why the end prints nothing
+    pub ends-silent : (b : Bool) (k : ℕ) → b ≡ has_room l o → p.line ≡ take k l
+        → (b ≡ false) ⊎ (((b ≡ true) × (max_lines ≤ p.done)) ⊎ ((b ≡ true) × (p.done < max_lines) × (k ≡ 0)))
+        → advances p 0 0 o ≡ advanced l o p (end_of p)
+    ends-silent b k e f (inl h) = short (end_of p) (sym e ∙ h)
+    ends-silent b k e f (inr (inl h)) = ends-past (sym e ∙ h.0) h.1
+    ends-silent b k e f (inr (inr h)) = ends-empty (sym e ∙ h.0) (omega (arith, ap length f, length-take k l, h.2)) h.1

@@ -1,5 +1,5 @@
 -- The steps of the day over what the caller lends: a buffer for the line so far, and a paper for what a line prints.
-use Rattle.std.specs.Prelude.{◌≡◌, ℕ, ◌≤◌, cond, ◌&&◌, List, [], ◌++◌, length, take, drop, leb}
+use Rattle.std.specs.Prelude.{◌≡◌, ℕ, ◌≤◌, Bool, cond, ◌&&◌, List, [], ◌++◌, length, take, drop, leb}
 use Rattle.std.proofs.Math.Seq.{paste}
 use Rattle.book.specs.Store.{Store, store_call}
 use Rattle.commands.specs.Served.{paper_bytes}
@@ -31,9 +31,13 @@ advances p n m o = record { to = p; taken = n; printed = m; paper = o }
 abbrev pub on_paper : List ℕ → Stepped → Advanced
 on_paper o x = advances x.to x.taken (length x.bytes) (paste o 0 x.bytes (length x.bytes))
 
+-- the line's buffer l has room for 301 bytes, and the paper o for what any line prints
+abbrev pub has_room : List ℕ → List ℕ → Bool
+has_room l o = leb kept_bytes (length l) && leb paper_bytes (length o)
+
 -- The step x from p on, over the line's buffer l and the paper o. Where one has no room for any line, nothing is done.
 unfoldable pub advanced : List ℕ → List ℕ → Progress Store → Stepped → Advanced
-advanced l o p x = cond (leb kept_bytes (length l) && leb paper_bytes (length o)) (on_paper o x) (advances p 0 0 o)
+advanced l o p x = cond (has_room l o) (on_paper o x) (advances p 0 0 o)
 
 -- The contract of a step over the part s. What the day prints from here is what this step printed and then what it prints from there, whatever comes
 -- after the part; and the step is that of the definition, so that it takes what it can.

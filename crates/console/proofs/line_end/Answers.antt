@@ -1,25 +1,22 @@
 -- `console::line_end` meets its contract.
+use mathlib.Core.Path.{◌≡◌, ◌∙◌}
 use native.Mathlib.Omega.{arith}
-use Rattle.console.proofs.Places.{sought, seeks-on, sought-all}
+use lib.Dec.{eqb}
+use borrow.Author.Rules.{rules}
+use Rattle.std.proofs.Common.{tests}
+use Rattle.std.specs.List.{position}
+use Rattle.std.proofs.lemmas.Iterator.{YieldsList-from_slice}
+use Rattle.std.proofs.lemmas.Iterator.Search.{position_from_yields_List}
+use Rattle.language.specs.Bytes.{newline_byte}
+use Rattle.console.proofs.Day.{line-end-le}
+use Rattle.console.proofs.Places.{line-end-found}
 use Rattle.console.proofs.line_end.Goals as goal
 
-pub loop-i-init : goal.loop-i-init
-loop-i-init c = record { inside = omega arith; same = omega arith }
-
-pub bounds-part-i : goal.bounds-part-i
-bounds-part-i c = omega arith
-
-pub returns-then-part-i-eq10 : goal.returns-then-part-i-eq10
-returns-then-part-i-eq10 c = sought c.args.part.now c.loop-i.i c.loop-i-test.true c.loop-i.invariant c.if-part-i-eq10.true
-
-pub overflow_add-i : goal.overflow_add-i
-overflow_add-i c = omega arith
-
-pub loop-i-smaller : goal.loop-i-smaller
-loop-i-smaller c = omega arith
-
-pub loop-i-preserved : goal.loop-i-preserved
-loop-i-preserved c = seeks-on c.args.part.now c.loop-i.i c.loop-i-test.true c.loop-i.invariant c.if-part-i-eq10.false
-
 pub returns : goal.returns
-returns c = sought-all c.args.part.now c.loop-i.i c.loop-i-test.false c.loop-i.invariant
+returns c =
+    let s = c.args.part.now in
+    let e : c.position.result ≡ position (λ b. eqb b newline_byte) s =
+    position_from_yields_List (λ b. eqb b newline_byte) _ _ c.position.result c.position.ensures.ran (YieldsList-from_slice s cc) (λ x b q k. search (rules, tests))
+    in
+    let place = c.unwrap_or.ensures ∙ line-end-found s _ e in
+    record { place = place; within = omega (arith, place, line-end-le s) }
