@@ -9,6 +9,7 @@ ghost use Rattle.engine.specs.Stored.{stored};
 ghost use Rattle.lines.specs.Lines.{run};
 ghost use Rattle.commands.specs.Served.{paper_bytes, granted, printed, performs, performed};
 
+use book::answer_number;
 use columns::{LineColumns, top, write_columns, write_output};
 use engine::Store;
 use language::{CASHIER, HEIGHT, OPEN};
@@ -95,7 +96,7 @@ pub fn perform(store: &mut Store, number: u32, line: &[u8], paper: &mut [u8]) ->
                 OPEN,
                 &line[FIELD_START..],
             );
-            tell(paper, number, answer)
+            tell(paper, number, answer_number(answer))
         }
         Some(Command::Withdraw(letter)) => {
             let answer = lent::withdraw(
@@ -105,7 +106,7 @@ pub fn perform(store: &mut Store, number: u32, line: &[u8], paper: &mut [u8]) ->
                 &store.vars,
                 u32::from(letter),
             );
-            tell(paper, number, answer)
+            tell(paper, number, answer_number(answer))
         }
         Some(Command::Run(letter, allowance, count)) => {
             execute(

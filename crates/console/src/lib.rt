@@ -21,6 +21,7 @@ pub const LINES: u32 = 9999;
 pub const KEPT: usize = LINE + 1;
 
 // Where the day is, beside its store: how many lines are done, and how many bytes of the next line stand at the start of its buffer.
+// The count stands beside a buffer that is lent, since the clause of `step` says what is done with a buffer of any length.
 #[derive(Clone, Copy, Debug, PartialEq, Eq)]
 pub struct Place {
     pub done: u32,

@@ -3,8 +3,9 @@ use mathlib.Core.Path.{◌≡◌, refl, sym, ap, ◌∙◌}
 use mathlib.Core.List.{List, [], ◌∷◌, ◌++◌, append_assoc, append-nil}
 use Prim.Native.Nat.{ℕ, ◌+◌, ◌*◌, ◌-◌, ◌≤◌, ◌<◌}
 use native.Mathlib.Omega.{arith}
-use lib.ListN.{length, take, drop, length-append, length-drop, drop_of_length-le}
-use lib.Seq.{paste, take_all, drop-drop, length-take-le}
+use lib.ListN.{length, take, drop, length-append, length-drop}
+use lib.Seq.{paste, take_all, length-take-le}
+use Rattle.std.proofs.lemmas.List.{nil_from_length}
 use Rattle.numerals.specs.Numerals.{Written, wrote, written, delivers}
 use Rattle.numerals.proofs.Numerals.{written-room, written-two, delivered-whole, delivered-short}
 use Rattle.book.specs.Store.{Store, store_call, fresh_store}
@@ -13,28 +14,26 @@ use Rattle.console.specs.Day.{max_lines, Progress, starts, day_from, day_of}
 use Rattle.console.specs.Steps.{kept_bytes}
 use Rattle.console.specs.Places.{Advanced, Steps, Ends}
 use Rattle.console.proofs.Day.{day-of-store}
-use Rattle.console.proofs.Places.{goes, end_goes}
+use Rattle.console.proofs.Places.{Goes, Leaves, goes, end_goes}
 use Rattle.day.specs.Played.{short_output, played, Prints}
 
--- what was printed of the day of the input i: n bytes, at the start of the output o, which is o' now; p is where the day is, after so many bytes
-pub record Playing (i o : List ℕ) (p : Progress Store) (at n : ℕ) (o' : List ℕ) : Type 0 where
+-- what was printed of the day of the input i: n bytes, at the start of the output o, which is o' now; p is where the day is, before so much of the input
+pub record Playing (i o : List ℕ) (p : Progress Store) (rest : List ℕ) (n : ℕ) (o' : List ℕ) : Type 0 where
   pub bytes : List ℕ
-  pub day : day_of i ≡ bytes ++ day_from store_call p (drop at i)
+  pub day : day_of i ≡ bytes ++ day_from store_call p rest
   pub count : n ≡ length bytes
   pub fits : n ≤ length o → wrote n o' ≡ written o 0 bytes
-  pub inside : at ≤ length i
   pub size : length o' ≡ length o
   pub lines : p.done ≤ max_lines
   pub few : n ≤ paper_bytes * p.done
 
-pub playing-none : (i o : List ℕ) → Playing i o (starts fresh_store) 0 0 o
+pub playing-none : (i o : List ℕ) → Playing i o (starts fresh_store) i 0 o
 playing-none i o =
     record {
       bytes = [];
       day = sym (day-of-store i);
       count = refl;
       fits = λ h. written-room o 0 [] h;
-      inside = omega arith;
       size = refl;
       lines = omega arith;
       few = omega arith;
@@ -51,40 +50,40 @@ more-fits o o' o'' a b n m r e f g w h =
     in
     ap (λ k. wrote k o'') (sym next) ∙ all
 
-module _ (i o : List ℕ) (p : Progress Store) (at n : ℕ) (o' : List ℕ) (q : Playing i o p at n o') (l paper : List ℕ) (room : kept_bytes ≤ length l)
-    (long : paper_bytes ≤ length paper) (x : Advanced) (r : ℕ) (o'' : List ℕ) (w : wrote r o'' ≡ written o' n (take x.printed x.paper))
-    (size : length o'' ≡ length o') where
-  pub playing-more : Steps l paper (take (length i - at) (drop at i)) p x → Playing i o x.to (at + x.taken) (n + x.printed) o''
+module _ (i o : List ℕ) (p : Progress Store) (rest : List ℕ) (n : ℕ) (o' : List ℕ) (q : Playing i o p rest n o') (l paper : List ℕ)
+    (room : kept_bytes ≤ length l) (long : paper_bytes ≤ length paper) (x : Advanced) (r : ℕ) (o'' : List ℕ)
+    (w : wrote r o'' ≡ written o' n (take x.printed x.paper)) (size : length o'' ≡ length o') where
+  pub playing-more : Steps l paper rest p x → Playing i o x.to (take (length rest - x.taken) (drop x.taken rest)) (n + x.printed) o''
   playing-more s =
-      let z = goes p l paper (take (length i - at) (drop at i)) x room long s in
+      let z = goes p l paper rest x room long s in
       let b = take x.printed x.paper in
-      let part : take (length i - at) (drop at i) ≡ drop at i = take_all (length i - at) (drop at i) (omega (arith, length-drop at i)) in
+      let left : drop x.taken rest ≡ take (length rest - x.taken) (drop x.taken rest) =
+      sym (take_all (length rest - x.taken) (drop x.taken rest) (omega (arith, length-drop x.taken rest)))
+      in
       let len : length b ≡ x.printed = length-take-le x.printed x.paper (omega (arith, z.little, z.paper)) in
       record {
         bytes = q.bytes ++ b;
         day =
             q.day
             ∙ ap (λ (d : List ℕ). q.bytes ++ d)
-            (ap (day_from store_call p) (sym (append-nil (drop at i)))
-            ∙ ap (λ (d : List ℕ). day_from store_call p (d ++ [])) (sym part)
+            (ap (day_from store_call p) (sym (append-nil rest))
             ∙ s.day []
-            ∙ ap (λ (d : List ℕ). b ++ day_from store_call x.to d) (append-nil (drop x.taken (take (length i - at) (drop at i))) ∙ ap (drop x.taken) part ∙ drop-drop x.taken at i))
-            ∙ sym (append_assoc q.bytes b (day_from store_call x.to (drop (at + x.taken) i)));
+            ∙ ap (λ (d : List ℕ). b ++ day_from store_call x.to d) (append-nil (drop x.taken rest) ∙ left))
+            ∙ sym (append_assoc q.bytes b (day_from store_call x.to (take (length rest - x.taken) (drop x.taken rest))));
         count = omega (arith, q.count, length-append q.bytes b);
         fits = more-fits o o' o'' q.bytes b n x.printed r q.count (sym len) q.fits w;
-        inside = omega (arith, z.takes.inside, ap length part, length-drop at i, q.inside);
         size = size ∙ q.size;
         lines = z.lines q.lines;
         few = omega (arith, z.few, q.few);
       }
 
-  pub playing-ends : length i ≤ at → Ends l paper p x → Prints (day_of i) o o'' (n + x.printed)
+  pub playing-ends : length rest ≡ 0 → Ends l paper p x → Prints (day_of i) o o'' (n + x.printed)
   playing-ends h s =
       let z = end_goes p l paper x room long s in
       let b = take x.printed x.paper in
       let len : length b ≡ x.printed = length-take-le x.printed x.paper (omega (arith, z.little, z.paper)) in
       let all : day_of i ≡ q.bytes ++ b =
-      q.day ∙ ap (λ (d : List ℕ). q.bytes ++ day_from store_call p d) (drop_of_length-le i h) ∙ ap (λ (d : List ℕ). q.bytes ++ d) (s.day room long)
+      q.day ∙ ap (λ (d : List ℕ). q.bytes ++ day_from store_call p d) (nil_from_length rest h) ∙ ap (λ (d : List ℕ). q.bytes ++ d) (s.day room long)
       in
       let sum : n + x.printed ≡ length (day_of i) = omega (arith, q.count, length-append q.bytes b, ap length all) in
       record {
@@ -97,10 +96,17 @@ module _ (i o : List ℕ) (p : Progress Store) (at n : ℕ) (o' : List ℕ) (q :
       }
 
 -- the same at the head of the loop, with the buffers that are lent
-pub record Turning (i o : List ℕ) (p : Progress Store) (at n : ℕ) (o' l w : List ℕ) : Type 0 where
-  pub playing : Playing i o p at n o'
+pub record Turning (i o : List ℕ) (p : Progress Store) (rest : List ℕ) (n : ℕ) (o' l w : List ℕ) : Type 0 where
+  pub playing : Playing i o p rest n o'
   pub line : length l ≡ kept_bytes
   pub paper : length w ≡ paper_bytes
+
+-- what a step and the end come to there
+pub turning-goes : {i o : List ℕ} {p : Progress Store} {rest : List ℕ} {n : ℕ} {o' l w : List ℕ} {x : Advanced} → Turning i o p rest n o' l w → Steps l w rest p x → Goes w rest p x
+turning-goes q s = goes _ _ _ _ _ (omega (arith, q.line)) (omega (arith, q.paper)) s
+
+pub turning-leaves : {i o : List ℕ} {p : Progress Store} {rest : List ℕ} {n : ℕ} {o' l w : List ℕ} {x : Advanced} → Turning i o p rest n o' l w → Ends l w p x → Leaves w x
+turning-leaves q s = end_goes _ _ _ _ (omega (arith, q.line)) (omega (arith, q.paper)) s
 
 -- ── both times ──────────────────────────────────────────────────────────────────────────────────
 

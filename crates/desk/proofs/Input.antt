@@ -1,10 +1,11 @@
 -- The desk's input in parts.
-use mathlib.Core.Path.{◌≡◌, sym, ap, ◌∙◌}
+use mathlib.Core.Path.{◌≡◌, refl, sym, ap, ◌∙◌}
+use mathlib.Core.Bool.{false}
 use mathlib.Core.List.{List, ◌++◌, append_assoc}
-use mathlib.Core.Bool.{Bool, true}
 use Prim.Native.Nat.{ℕ, ◌+◌, ◌-◌, ◌≤◌, ◌<◌, min}
 use native.Mathlib.Omega.{arith}
-use lib.ListN.{length, take, drop, length-drop}
+use borrow.Rule.Slice.PartMut.{put_mid}
+use lib.ListN.{length, take, drop, length-append, length-take, length-drop}
 use lib.Seq.{take_all, take-append-le, take-append-add, drop-drop, length-take-le}
 use Rattle.book.specs.Store.{Store, store_call}
 use Rattle.commands.specs.Served.{paper_bytes}
@@ -12,7 +13,7 @@ use Rattle.console.specs.Day.{Progress, day_from}
 use Rattle.console.specs.Steps.{kept_bytes}
 use Rattle.console.specs.Places.{Advanced, Steps}
 use Rattle.console.proofs.Places.{Goes, goes}
-use Rattle.desk.specs.Input.{held_bytes, Lent, Serves, Relays}
+use Rattle.desk.specs.Input.{held_bytes, Lent, Undue, Serves, Relays}
 
 -- `at` bytes of the part s from p on are taken, and what they printed is held
 pub record Serving (s : List ℕ) (p : Progress Store) (at held : ℕ) (p' : Progress Store) (l o : List ℕ) : Type 0 where
@@ -47,28 +48,56 @@ day-more s p p' p'' at n a b f g rest =
 
 -- ── steps ───────────────────────────────────────────────────────────────────────────────────────
 
-module _ (s : List ℕ) (p : Progress Store) (at held : ℕ) (p' : Progress Store) (l o : List ℕ) (q : Serving s p at held p' l o)
-    (left : at < length s) (room : held + paper_bytes ≤ held_bytes) (x : Advanced) (e : Steps l (rest_of o held) (rest_of s at) p' x) where
-  pub step_went : Goes (rest_of o held) (rest_of s at) p' x
-  step_went =
-      goes p' l (rest_of o held) (rest_of s at) x (omega (arith, q.buffers.line)) (omega (arith, rest-size o held, q.buffers.out)) e
+-- the room that is left in the output after the bytes that are held
+abbrev pub room_of : List ℕ → ℕ → List ℕ
+room_of o held = take (held_bytes - held) (drop held o)
 
-  pub serving-more : (l'' after : List ℕ) → length l'' ≡ kept_bytes → length (take held o ++ (x.paper ++ after)) ≡ held_bytes
-      → Serving s p (at + x.taken) (held + x.printed) x.to l'' (take held o ++ (x.paper ++ after))
-  serving-more l'' after h g =
-      let z = step_went in
+-- a step over the rest of the part s goes on, and stays within the part and the output
+pub record Moves (s : List ℕ) (at held : ℕ) (x : Advanced) : Type 0 where
+  pub further : at < at + x.taken
+  pub inside : at + x.taken ≤ length s
+  pub few : held + x.printed ≤ held_bytes
+
+module _ {s : List ℕ} {p : Progress Store} {at held : ℕ} {p' : Progress Store} {l o : List ℕ} (q : Serving s p at held p' l o) (left : at < length s)
+    (due : Undue held false) {x : Advanced} (e : Steps l (room_of o held) (rest_of s at) p' x) where
+  room : held + paper_bytes ≤ held_bytes
+  room = due.room refl q.few
+
+  room-size : length (room_of o held) ≡ held_bytes - held
+  room-size = omega (arith, length-take (held_bytes - held) (drop held o), length-drop held o, q.buffers.out)
+
+  went : Goes (room_of o held) (rest_of s at) p' x
+  went = goes p' l (room_of o held) (rest_of s at) x (omega (arith, q.buffers.line)) (omega (arith, room, room-size)) e
+
+  pub moves : Moves s at held x
+  moves =
+      let z = went in
+      record {
+        further = omega (arith, z.takes.some, rest-size s at);
+        inside = omega (arith, z.takes.inside, rest-size s at, q.inside);
+        few = omega (arith, z.little, room);
+      }
+
+  pub serving-more : (l'' : List ℕ) → length l'' ≡ kept_bytes → Serving s p (at + x.taken) (held + x.printed) x.to l'' (put_mid held (held_bytes - held) o x.paper)
+  serving-more l'' h =
+      let z = went in
+      let m = moves in
+      let after = drop (held_bytes - held) (drop held o) in
       let size = length-take-le held o (omega (arith, q.few, q.buffers.out)) in
-      let fits : x.printed ≤ length x.paper = omega (arith, z.little, z.paper, rest-size o held, q.buffers.out) in
+      let fits : x.printed ≤ length x.paper = omega (arith, z.little, z.paper, room-size, room) in
       let printed : take (held + x.printed) (take held o ++ (x.paper ++ after)) ≡ take held o ++ take x.printed x.paper =
       ap (λ n. take (n + x.printed) (take held o ++ (x.paper ++ after))) (sym size)
       ∙ take-append-add (take held o) (x.paper ++ after) x.printed
       ∙ ap (λ (b : List ℕ). take held o ++ b) (take-append-le x.printed x.paper after fits)
       in
+      let whole : length (take held o ++ (x.paper ++ after)) ≡ held_bytes =
+      simp length-append (omega (arith, size, z.paper, room-size, length-drop (held_bytes - held) (drop held o), length-drop held o, q.buffers.out))
+      in
       record {
-        inside = omega (arith, z.takes.inside, rest-size s at, q.inside);
-        after = omega (arith, z.takes.some, rest-size s at, q.after, q.inside);
-        few = omega (arith, z.little);
-        buffers = record { line = h; out = g };
+        inside = m.inside;
+        after = omega (arith, m.further);
+        few = m.few;
+        buffers = record { line = h; out = whole };
         day = λ rest.
             day-more s p p' x.to at x.taken (take held o) (take x.printed x.paper) q.day e.day rest
             ∙ ap (λ (b : List ℕ). b ++ day_from store_call x.to (drop (at + x.taken) s ++ rest)) (sym printed);
@@ -84,10 +113,6 @@ pub record Relaying (s : List ℕ) (p : Progress Store) (at : ℕ) (p' : Progres
   pub day : (rest : List ℕ) → day_from store_call p (s ++ rest) ≡ bytes ++ day_from store_call p' (drop at s ++ rest)
 
 module _ (s : List ℕ) (p : Progress Store) (at : ℕ) (p' : Progress Store) (l o : List ℕ) (q : Relaying s p at p' l o) where
-  -- the whole part
-  pub relays-all : (written : Bool) → length s ≤ at → Relays s p p' at written
-  relays-all written h = record { inside = q.inside; whole = λ e. omega (arith, q.inside); bytes = q.bytes; day = q.day }
-
   -- steps over the rest of the part
   module _ (x : Advanced) (e : Serves (rest_of s at) p' x) where
     inside : at + x.taken ≤ length s
@@ -100,12 +125,5 @@ module _ (s : List ℕ) (p : Progress Store) (at : ℕ) (p' : Progress Store) (l
     pub relaying-more : (l'' o'' : List ℕ) → Lent l'' o'' → Relaying s p (at + x.taken) x.to l'' o''
     relaying-more l'' o'' b = record { inside = inside; buffers = b; bytes = q.bytes ++ take x.printed x.paper; day = day }
 
-    pub relays-some : (written : Bool) → (written ≡ true → at + x.taken ≡ length s) → Relays s p x.to (at + x.taken) written
-    relays-some written h = record { inside = inside; whole = h; bytes = q.bytes ++ take x.printed x.paper; day = day }
-
--- ── the whole input ─────────────────────────────────────────────────────────────────────────────
-
--- the buffers between two reads
-pub record Reading (l o buffer : List ℕ) : Type 0 where
-  pub buffers : Lent l o
-  pub size : length buffer ≡ 65536
+    pub relays-some : Relays s p x.to (at + x.taken)
+    relays-some = record { inside = inside; bytes = q.bytes ++ take x.printed x.paper; day = day }

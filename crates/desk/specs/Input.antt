@@ -33,9 +33,8 @@ pub record Serves (s : List ℕ) (p : Progress Store) (x : Advanced) : Type 0 wh
   pub few : x.printed ≤ held_bytes
   pub day : (rest : List ℕ) → day_from store_call p (s ++ rest) ≡ take x.printed x.paper ++ day_from store_call x.to (drop x.taken s ++ rest)
 
--- A part s from p on, as far as p', after n of its bytes, which are all unless a write failed: between them no line of it is lost and none done twice.
-pub record Relays (s : List ℕ) (p p' : Progress Store) (n : ℕ) (written : Bool) : Type 0 where
+-- A part s from p on, as far as p', after n of its bytes: between them no line of it is lost and none done twice.
+pub record Relays (s : List ℕ) (p p' : Progress Store) (n : ℕ) : Type 0 where
   pub inside : n ≤ length s
-  pub whole : written ≡ true → n ≡ length s
   pub bytes : List ℕ
   pub day : (rest : List ℕ) → day_from store_call p (s ++ rest) ≡ bytes ++ day_from store_call p' (drop n s ++ rest)

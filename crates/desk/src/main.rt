@@ -2,15 +2,16 @@
 // it: what is written is what `serve` printed, and what is read goes to `serve` byte by byte.
 #![tactic(auto)]
 
-ghost use Rattle.std.specs.Prelude.{◌≤◌, length};
-ghost use Rattle.book.specs.Store.{store_of};
+ghost use Rattle.std.specs.Prelude.{length, IfOk, IfErr};
+ghost use Rattle.engine.specs.Stored.{stored};
 ghost use Rattle.console.specs.Places.{progress, advances};
 ghost use Rattle.desk.specs.Input.{Lent, Fresh, Undue, Serves, Relays};
 
 use commands::PAPER;
 use console::{Advance, KEPT, LINES, Place, finish, line_end, step};
-use language::{LETTERS, OPEN, STORE_CELLS, VARIABLES};
+use engine::Store;
 use lines::{Command, INPUTS, parse};
+use std::fmt;
 use std::io::{IsTerminal, Print, Read};
 
 // The bytes of output that are held before they are written.
@@ -22,49 +23,50 @@ const PART: usize = 65536;
 // The steps that runs may take while an answer waits to be written: a few milliseconds.
 const PATIENCE: u32 = 1000000;
 
-// One line on standard error: what has failed, and the last line that was obeyed.
-fn complain(rt: HostRuntime, what: &str, done: u32) {
-    let _ = eprintln!(rt; "desk: {what}; stopped after line {done}");
+// What has failed, and the last line that was obeyed.
+#[derive(Clone, Copy, Debug, PartialEq, Eq)]
+enum Failure {
+    Unread(u32),
+    Unwritten(u32),
 }
 
-// The answers are written, or it is said that they cannot be.
-fn write_answers(rt: HostRuntime, out: &[u8], count: usize, done: u32) -> bool
-    requires { count ≤ length out.now }
-{
-    let written = rt.write_all(&out[..count]).is_ok();
-    if !written {
-        complain(rt, "the answers cannot be written", done);
+impl fmt::Display for Failure {
+    fn fmt<W: fmt::Write>(&self, f: &mut fmt::Formatter<W>) -> fmt::Result {
+        match self {
+            Failure::Unread(done) => write!(
+                f,
+                "the input cannot be read; stopped after line {done}"
+            ),
+            Failure::Unwritten(done) => write!(
+                f,
+                "the answers cannot be written; stopped after line {done}"
+            ),
+        }
     }
-    written
 }
 
-// Steps and more steps, counted up to PATIENCE.
-fn counted(steps: u32, more: u32) -> u32 {
-    if PATIENCE < more {
-        return PATIENCE;
+// The answers of a part cannot be written: where the day is then, and how many bytes of the part it took.
+#[derive(Clone, Copy, Debug, PartialEq, Eq)]
+struct Unwritten {
+    place: Place,
+    taken: usize,
+}
+
+impl From<Unwritten> for Failure {
+    fn from(stopped: Unwritten) -> Failure {
+        Failure::Unwritten(stopped.place.done)
     }
-    if PATIENCE - more < steps {
-        return PATIENCE;
-    }
-    steps + more
 }
 
 // The steps that the next line may take while answers wait: the allowance of a run.
 fn asked(held: usize, rest: &[u8]) -> u32 {
-    if held == 0 {
-        return 0;
-    }
-    if rest.len() == 0 {
-        return 0;
-    }
-    if rest[0] != b'R' {
+    if held == 0 || !rest.starts_with(b"R") {
         return 0;
     }
     let end = line_end(rest);
     let mut inputs = [0i32; INPUTS];
-    let command = parse(&rest[..end], &mut inputs);
-    match command {
-        Command::Run(_, allowance, _) => allowance,
+    match parse(&rest[..end], &mut inputs) {
+        Some(Command::Run(_, allowance, _)) => allowance,
         _ => 0,
     }
 }
@@ -74,196 +76,112 @@ fn asked(held: usize, rest: &[u8]) -> u32 {
 fn is_due(held: usize, person: bool, steps: u32) -> bool
     ensures { Undue held result }
 {
-    if held == 0 {
-        return false;
-    }
-    if person {
-        return true;
-    }
-    if HELD - PAPER < held {
-        return true;
-    }
-    steps == PATIENCE
+    held > 0 && (person || HELD - PAPER < held || steps == PATIENCE)
 }
 
-// Steps over a part of the input, until it is used up or what they printed is to be written.
-fn serve(
-    cells: &mut [i32; STORE_CELLS],
-    used: &mut [usize; LETTERS],
-    permissions: &mut [u32; LETTERS],
-    vars: &mut [i32; VARIABLES],
-    line: &mut [u8],
-    place: Place,
-    part: &[u8],
-    out: &mut [u8],
+// The desk's store, the bytes of the line so far, the answers that wait, and whether a person types.
+// The memory is fixed: the answers that wait are the first bytes of an array, and `Advance` says how many.
+#[derive(Drop)]
+struct Desk {
+    store: Store,
+    line: [u8; KEPT],
+    out: [u8; HELD],
     person: bool,
-) -> Advance
-    requires { Lent line.old out.old }
-    ensures { Serves part.now
-        (progress (store_of cells.old used.old permissions.old vars.old) place line.old)
-        (advances (progress (store_of cells.new used.new permissions.new vars.new) result.place line.new)
-        result.taken result.printed out.new) }
-{
-    let mut p = place;
-    let mut at: usize = 0;
-    let mut held: usize = 0;
-    let mut steps: u32 = 0;
-    while at < part.len() {
-        steps = counted(steps, asked(held, &part[at..]));
-        if is_due(held, person, steps) {
-            return Advance {
-                place: p,
-                taken: at,
-                printed: held,
-            };
-        }
-        let a = step(
-            cells,
-            used,
-            permissions,
-            vars,
-            line,
-            p,
-            &part[at..],
-            &mut out[held..],
-        );
-        p = a.place;
-        at += a.taken;
-        held += a.printed;
-    }
-    Advance {
-        place: p,
-        taken: at,
-        printed: held,
-    }
 }
 
-// A part of the input went through the desk, as far as it could be written.
-#[derive(Clone, Copy)]
-struct Relayed {
-    place: Place,
-    taken: usize,
-    written: bool,
-}
-
-// All of a part: what it prints is written before more is read. Where that fails, no later line is obeyed.
-fn relay(
-    rt: HostRuntime,
-    cells: &mut [i32; STORE_CELLS],
-    used: &mut [usize; LETTERS],
-    permissions: &mut [u32; LETTERS],
-    vars: &mut [i32; VARIABLES],
-    line: &mut [u8],
-    place: Place,
-    part: &[u8],
-    out: &mut [u8],
-    person: bool,
-) -> Relayed
-    requires { Lent line.old out.old }
-    ensures { Relays part.now
-        (progress (store_of cells.old used.old permissions.old vars.old) place line.old)
-        (progress (store_of cells.new used.new permissions.new vars.new) result.place line.new)
-        result.taken result.written }
-{
-    let mut p = place;
-    let mut at: usize = 0;
-    while at < part.len() {
-        let a = serve(
-            cells,
-            used,
-            permissions,
-            vars,
-            line,
-            p,
-            &part[at..],
-            out,
-            person,
-        );
-        p = a.place;
-        at += a.taken; // the next steps of this part
-        let written = write_answers(rt, out, a.printed, p.done);
-        if !written {
-            return Relayed {
-                place: p,
-                taken: at,
-                written,
-            };
-        }
-    }
-    Relayed {
-        place: p,
-        taken: at,
-        written: true,
-    }
-}
-
-// The whole input. Nothing says that it ends, so the reads are counted down.
-fn attend(
-    rt: HostRuntime,
-    cells: &mut [i32; STORE_CELLS],
-    used: &mut [usize; LETTERS],
-    permissions: &mut [u32; LETTERS],
-    vars: &mut [i32; VARIABLES],
-    line: &mut [u8],
-    out: &mut [u8],
-    person: bool,
-)
-    requires { Fresh (store_of cells.old used.old permissions.old vars.old) line.old out.old }
-{
-    let mut input = rt.stdin();
-    let mut buffer = [0u8; PART];
-    let mut p = Place { done: 0, kept: 0 };
-    let mut reads = u64::MAX;
-    while reads > 0 && p.done < LINES {
-        reads -= 1;
-        let n = match input.read(&mut buffer) {
-            Ok(n) => n,
-            Err(_) => {
-                complain(rt, "the input cannot be read", p.done);
-                return;
+impl Desk {
+    // Steps over a part of the input, until it is used up or what they printed is to be written.
+    fn serve(&mut self, mut place: Place, part: &[u8]) -> Advance
+        requires { Lent self.old.line self.old.out }
+        ensures lent { Lent self.new.line self.new.out }
+        ensures served { Serves part.now (progress (stored self.old.store) place self.old.line)
+            (advances (progress (stored self.new.store) result.place self.new.line) result.taken result.printed self.new.out) }
+    {
+        // a step says how many bytes it took, and their sum is what `Serves` speaks of
+        let mut at: usize = 0;
+        let mut held: usize = 0;
+        let mut steps: u32 = 0;
+        while at < part.len() {
+            steps = steps.saturating_add(asked(held, &part[at..])).min(PATIENCE);
+            if is_due(held, self.person, steps) {
+                break;
             }
-        };
-        if n == 0 {
-            // "the newline, which the last may lack"
-            let e = finish(cells, used, permissions, vars, line, p, out);
-            write_answers(rt, out, e.printed, e.place.done);
-            return;
+            let a = step(
+                &mut self.store,
+                &mut self.line,
+                place,
+                &part[at..],
+                &mut self.out[held..],
+            );
+            place = a.place;
+            at += a.taken;
+            held += a.printed;
         }
-        let t = relay(
-            rt,
-            cells,
-            used,
-            permissions,
-            vars,
-            line,
-            p,
-            &buffer[..n],
-            out,
-            person,
-        );
-        p = t.place;
-        if !t.written {
-            return;
+        Advance {
+            place,
+            taken: at,
+            printed: held,
         }
+    }
+
+    // All of a part: what it prints is written before more is read. Where that fails, no later line is obeyed.
+    fn relay(&mut self, rt: HostRuntime, mut place: Place, part: &[u8]) -> Result<Place, Unwritten>
+        requires { Lent self.old.line self.old.out }
+        ensures lent { Lent self.new.line self.new.out }
+        ensures whole { IfOk result (λ end. Relays part.now (progress (stored self.old.store) place self.old.line)
+            (progress (stored self.new.store) end self.new.line) (length part.now)) }
+        ensures stopped { IfErr result (λ e. Relays part.now (progress (stored self.old.store) place self.old.line)
+            (progress (stored self.new.store) e.place self.new.line) e.taken) }
+    {
+        let mut at: usize = 0;
+        while at < part.len() {
+            let a = self.serve(place, &part[at..]);
+            place = a.place;
+            at += a.taken; // the next steps of this part
+            if rt.write_all(&self.out[..a.printed]).is_err() {
+                return Err(Unwritten { place, taken: at });
+            }
+        }
+        Ok(place)
+    }
+
+    // The whole input. Nothing says that it ends, so the reads are counted.
+    fn attend(&mut self, rt: HostRuntime) -> Result<(), Failure>
+        requires { Fresh (stored self.old.store) self.old.line self.old.out }
+    {
+        let mut input = rt.stdin();
+        let mut buffer = [0u8; PART];
+        let mut place = Place { done: 0, kept: 0 };
+        for _ in 0..u64::MAX {
+            if LINES <= place.done {
+                break;
+            }
+            let Ok(n) = input.read(&mut buffer) else {
+                return Err(Failure::Unread(place.done));
+            };
+            if n == 0 {
+                // "the newline, which the last may lack"
+                let e = finish(&mut self.store, &self.line, place, &mut self.out);
+                if rt.write_all(&self.out[..e.printed]).is_err() {
+                    return Err(Failure::Unwritten(e.place.done));
+                }
+                break;
+            }
+            place = self.relay(rt, place, &buffer[..n])?;
+        }
+        Ok(())
     }
 }
 
 fn main(rt: HostRuntime) {
-    let mut cells = [0i32; STORE_CELLS];
-    let mut used = [0usize; LETTERS];
-    let mut permissions = [OPEN; LETTERS];
-    let mut vars = [0i32; VARIABLES];
-    let mut line = [0u8; KEPT];
-    let mut out = [0u8; HELD];
-    let person = rt.stdin().is_terminal();
-    attend(
-        rt,
-        &mut cells,
-        &mut used,
-        &mut permissions,
-        &mut vars,
-        &mut line,
-        &mut out,
-        person,
-    );
+    let mut desk = Desk {
+        store: Store::fresh(),
+        line: [0u8; KEPT],
+        out: [0u8; HELD],
+        person: rt.stdin().is_terminal(),
+    };
+    if let Err(failure) = desk.attend(rt) {
+        // one line on standard error
+        let _ = eprintln!(rt; "desk: {failure}");
+    }
 }

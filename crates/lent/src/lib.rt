@@ -1,4 +1,4 @@
-// Define and withdraw over a store whose arrays the caller lends: no copy of the store is made.
+// Define and withdraw over a store whose arrays the caller lends: no copy of the store is made. They stay four parameters, as the C interface lends them.
 #![tactic(auto)]
 
 ghost use Rattle.std.specs.Prelude.{◌≡◌, ◌<◌};

@@ -4,7 +4,7 @@
 
 ghost use Rattle.std.specs.Prelude.{◌≡◌};
 ghost use Rattle.language.specs.Reading.{read};
-ghost use Rattle.linker.specs.Linked.{linked};
+ghost use Rattle.linker.specs.Linked.{linked, link_number};
 ghost use Rattle.linker.specs.Into.{links_into, linked_into};
 ghost use Rattle.numerals.specs.Numerals.{delivers};
 ghost use Rattle.faircopy.specs.FairCopy.{copied};
@@ -51,7 +51,8 @@ pub extern "C" fn rec_lent_define(
     ensures { changed (store_of cells.new used.new marks.new vars.now) result (defines letter mark text.now)
         ≡ store_call (store_of cells.old used.old marks.old vars.now) (defines letter mark text.now) }
 {
-    lent::define(cells, used, marks, vars, letter as u32, mark, text)
+    let answer = lent::define(cells, used, marks, vars, u32::from(letter), mark, text);
+    book::answer_number(answer)
 }
 
 // The letter's text goes, and its mark is open: 0, or the refusal's number.
@@ -66,7 +67,8 @@ pub extern "C" fn rec_lent_withdraw(
     ensures { changed (store_of cells.new used.new marks.new vars.now) result (withdraws letter)
         ≡ store_call (store_of cells.old used.old marks.old vars.now) (withdraws letter) }
 {
-    lent::withdraw(cells, used, marks, vars, letter as u32)
+    let answer = lent::withdraw(cells, used, marks, vars, u32::from(letter));
+    book::answer_number(answer)
 }
 
 // The answer's number, for a caller with this role. Cells, counts and marks are read only: "No run changes a table." The variables, the list and the output
@@ -94,7 +96,7 @@ pub extern "C" fn rec_lent_run(
         used,
         marks,
         vars,
-        letter as u32,
+        u32::from(letter),
         role,
         allowance,
         inputs,
@@ -119,7 +121,9 @@ pub extern "C" fn rec_lent_reach(
     ensures { reports result reached.new missing.new
         ≡ reach (store_of cells.now used.now marks.now vars.now) letter reached.old missing.old }
 {
-    reach::reach(cells, used, marks, vars, letter as u32, reached, missing)
+    let letter = u32::from(letter);
+    let answer = reach::reach(cells, used, marks, vars, letter, reached, missing);
+    reach::reach_number(answer)
 }
 
 // ── a text alone ────────────────────────────────────────────────────────────────────────────────
@@ -127,7 +131,7 @@ pub extern "C" fn rec_lent_reach(
 // 0, or the number of the text's first fault.
 #[unsafe(no_mangle)]
 pub extern "C" fn rec_check(text: &[u8]) -> u32
-    ensures { result ≡ (linked (read text.now)).number }
+    ensures { result ≡ link_number (linked (read text.now)) }
 {
     linker::check(text)
 }

@@ -19,7 +19,7 @@ unfolding granted
 returns-in-Some-Define c =
     let s = c.args.line.now in
     let parsed = rw c.in-Some-Define.field-0-is at c.in-Some-Define.ensures in
-    changed-printed _ _ c.args.number _ _ _ _ _ c.define-answer.ensures c.tell.ensures
+    changed-printed _ _ c.args.number _ _ _ _ _ c.define-answer.ensures (rw c.answer_number.ensures at c.tell.ensures)
     ∙ by-request _ _ _ _ (define _ _) c.if-paper-lt-PAPER.false
     (rw (c.from.ensures, take_all (length s - field_start) (drop field_start s) (omega (arith, length-drop field_start s))) parsed.asks.means)
 
@@ -27,7 +27,7 @@ pub returns-in-Some-Withdraw : goal.returns-in-Some-Withdraw
 unfolding granted
 returns-in-Some-Withdraw c =
     let parsed = rw c.in-Some-Withdraw.field-0-is at c.in-Some-Withdraw.ensures in
-    changed-printed _ _ c.args.number _ _ _ _ _ c.withdraw-answer.ensures c.tell-in-Some-Withdraw.ensures
+    changed-printed _ _ c.args.number _ _ _ _ _ c.withdraw-answer.ensures (rw c.answer_number-in-Some-Withdraw.ensures at c.tell-in-Some-Withdraw.ensures)
     ∙ by-request _ _ _ _ (withdraw _) c.if-paper-lt-PAPER.false (rw c.from-in-Some-Withdraw.ensures parsed.asks.means)
 
 pub returns-in-Some-Run : goal.returns-in-Some-Run

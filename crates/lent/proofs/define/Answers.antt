@@ -1,6 +1,6 @@
 -- `lent::define` meets its contract.
 use mathlib.Core.Path.{◌≡◌}
-use Rattle.std.specs.Prelude.{Ok, Err}
+use Rattle.std.specs.Prelude.{Err}
 use borrow.Author.Rules.{rules}
 use Rattle.book.specs.declared.Refusal.TheVariants.{BadText}
 use Rattle.book.specs.Store.{Store, store_of}

@@ -1,0 +1,13 @@
+-- `desk::Desk::serve` meets its contract. The loop's invariant: what is held is what the bytes taken print.
+use Prim.Native.Nat.{◌-◌}
+use lib.ListN.{length}
+use Rattle.engine.specs.Stored.{stored}
+use Rattle.console.specs.Places.{progress}
+use Rattle.desk.proofs.Input.{Serving}
+use Rattle.desk.proofs.Desk.serve.Given as goal
+
+abbrev pub invariant-loop-at : goal.invariant-loop-at
+invariant-loop-at l = Serving l.part (progress (stored l.initial.self.store) l.initial.place l.initial.self.line) l.at l.held (progress (stored l.self.store) l.place l.self.line) l.self.line l.self.out
+
+abbrev pub decreases-loop-at : goal.decreases-loop-at
+decreases-loop-at l = length l.part - l.at
