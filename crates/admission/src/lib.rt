@@ -32,7 +32,7 @@ impl View<'_> {
         ensures decides { Decides self.entry (λ v. opening v letter) result }
         ensures letter { OnOk result (is_letter letter ≡ true) }
     {
-        if !validation::sound_store(self.used, *self.permissions, *self.vars) {
+        if !validation::sound_store(self.used, self.permissions, self.vars) {
             return Err(Refusal::BadStore);
         }
         if !validation::is_letter(letter) {

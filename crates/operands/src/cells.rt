@@ -109,7 +109,7 @@ impl Code {
         requires within { number ≤ max_cells }
         ensures { result ≡ cell (table_in cells.now self) number }
     {
-        cells[self.base + number - 1]
+        cells[self.base + (number - 1)]
     }
 
     // What the due cell holds; neither a mark nor a transfer for the last two cells, and for what is outside 2 to used.

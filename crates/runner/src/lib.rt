@@ -53,7 +53,6 @@ fn execute(
 {
     let before = *vars;
     let counts = *used;
-    validation::all_there(counts);
     let guards = *permissions;
     let k = admission::index(letter);
     let m = drive(

@@ -1,8 +1,7 @@
 // What refuses a letter (1), inputs (11), a store (13), and a mark or a role (35).
 #![tactic(auto)]
 
-ghost use Rattle.std.specs.Prelude.{◌≡◌, ◌&&◌, length};
-ghost use Rattle.language.specs.Limits.{max_letters};
+ghost use Rattle.std.specs.Prelude.{◌≡◌, ◌&&◌};
 ghost use Rattle.language.specs.Letters.{is_letter};
 ghost use Rattle.language.specs.Roles.{is_permission, is_role};
 ghost use Rattle.language.specs.Tables.{sound_count, sound_used, sound_permissions};
@@ -66,13 +65,6 @@ fn sound_used(used: &[usize]) -> bool
     used.iter().all(|x| sound_count(*x))
 }
 
-// All counts are there: what the type of an array says, as a fact about its list. Nothing is done, and no copy is made.
-pub fn all_there(used: [usize; LETTERS]) -> bool
-    ensures { length used ≡ max_letters }
-{
-    true
-}
-
 // Every mark is one of the two.
 fn sound_permissions(permissions: &[u32]) -> bool
     ensures { result ≡ sound_permissions permissions.now }
@@ -83,10 +75,10 @@ fn sound_permissions(permissions: &[u32]) -> bool
 // "bad store: a used count neither 0 nor 3 to 250, or a variable outside the values", or "a mark with any other value", is not so.
 pub fn sound_store(
     used: &[usize; LETTERS],
-    permissions: [u32; LETTERS],
-    vars: [i32; VARIABLES],
+    permissions: &[u32; LETTERS],
+    vars: &[i32; VARIABLES],
 ) -> bool
-    ensures { result ≡ sound_used used.now && sound_permissions permissions && lawful vars }
+    ensures { result ≡ sound_used used.now && sound_permissions permissions.now && lawful vars.now }
 {
-    sound_used(used) && sound_permissions(&permissions) && lawful(&vars)
+    sound_used(used) && sound_permissions(permissions) && lawful(vars)
 }

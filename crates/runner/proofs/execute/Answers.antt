@@ -36,7 +36,7 @@ drive-m-requires c =
     record {
       letter = rw c.index-k.ensures (letter-lt _ f.letter);
       allowed = rw c.index-k.ensures f.allowed;
-      letters = c.all_there.ensures;
+      letters = search rules;
       counted = sound-most given f.sound;
       places = f.places;
     }
