@@ -129,17 +129,20 @@ pub fn report(m: Machine, allowance: u32) -> Report
     requires { m.left ≤ allowance }
     ensures { result ≡ report_from allowance m }
 {
-    let (number, truth) = match m.status {
-        Status::Stopped(ending) => (ending.number(), false),
-        Status::Over(truth) => (0, truth),
-        Status::Goes | Status::Enters => (0, false),
-    };
-    Report {
-        number,
-        truth,
+    let report = Report {
+        number: 0,
+        truth: false,
         steps: ((allowance as usize) - m.left) as u32,
         height: m.height,
         taken: m.taken,
         written: m.written,
+    };
+    match m.status {
+        Status::Stopped(ending) => Report {
+            number: ending.number(),
+            ..report
+        },
+        Status::Over(truth) => Report { truth, ..report },
+        Status::Goes | Status::Enters => report,
     }
 }

@@ -1,4 +1,5 @@
 -- `runner::execute` meets its contract: what the interpreter reports.
+use borrow.Author.Rules.{rules}
 use Rattle.language.proofs.Letters.{letter-lt}
 use Rattle.book.specs.Calls.{Run}
 use Rattle.book.specs.Store.{Store, store_of, store_view}

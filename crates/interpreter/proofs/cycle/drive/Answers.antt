@@ -7,7 +7,7 @@ use Rattle.language.proofs.EffectsLent.{lent-start}
 use Rattle.operands.specs.Held.{Held, held, frames_of}
 use Rattle.operands.proofs.Held.{length-frames}
 use Rattle.interpreter.proofs.Loop.{after, run_at}
-use Rattle.interpreter.proofs.Runs.{stretch-fit, allowed_of, left-resumed, resume, falls, stretch-more, driven}
+use Rattle.interpreter.proofs.Runs.{stretch-fit, allowed_of, left-resumed, resume, falls, stretch-none, stretch-more, driven}
 use Rattle.interpreter.proofs.cycle.drive.Goals as goal
 
 pub loop-m-init : goal.loop-m-init
@@ -32,6 +32,9 @@ loop-m-init c =
           };
       between = λ e. cc;
     }
+
+pub loop-m-2-init : goal.loop-m-2-init
+loop-m-2-init c = stretch-none _ _ refl c.fetch-pair.ensures
 
 pub loop-m-smaller : goal.loop-m-smaller
 loop-m-smaller c = omega (arith, c.loop-m-2.invariant.fewer c.in_default-status.not-Goes, left-resumed c.loop-m.m c.in-Enters.is)
