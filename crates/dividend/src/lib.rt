@@ -19,6 +19,12 @@ const WHOLE_RATE: u64 = 1000;
 // A dividend is a multiple of so many cents.
 const DIVIDEND_STEP: u64 = 10;
 
+// "31 bad pool, a figure outside its bounds"
+const BAD_POOL: u32 = 31;
+
+// "32 no winner, stakes are 0"
+const NO_WINNER: u32 = 32;
+
 // How many figures a payout has.
 pub const FIGURES: usize = 5;
 
@@ -45,8 +51,8 @@ impl PoolError {
         ensures { result ≡ pool_error_number self }
     {
         match self {
-            PoolError::BadPool => 31, // "bad pool, a figure outside its bounds"
-            PoolError::NoWinner => 32, // "no winner, stakes are 0"
+            PoolError::BadPool => BAD_POOL,
+            PoolError::NoWinner => NO_WINNER,
         }
     }
 }
