@@ -1,5 +1,6 @@
-// The C library: every `extern "C"` function of the product. Each calls one function with the same contract. include/rec.h is the header; its inline
-// functions take a store apart for those here, and put figures into a report. Letters are bytes here, and what is no letter is refused below.
+// The C library: every `extern "C"` function of the product. Each calls one function with the same contract; of define, withdraw and reach the answer is
+// then made a number. include/rec.h is the header; its inline functions take a store apart for those here, and put figures into a report. Letters are
+// bytes here, and what is no letter is refused below.
 #![tactic(auto)]
 
 ghost use Rattle.std.specs.Prelude.{◌≡◌};
