@@ -13,10 +13,11 @@ use Rattle.language.specs.Bytes.{newline_byte, quote_byte, tick_byte, minus_byte
 use Rattle.language.specs.declared.Fault.{Fault}
 use Rattle.language.specs.declared.Fault.TheVariants.{StrayMark, BadCounter}
 use Rattle.language.specs.Syntax.{Access, variable, print}
-use Rattle.language.specs.Tokens.{Token, does, counts, faults, Class, class, digit_cell}
+use Rattle.language.specs.Tokens.{Token, begins, does, counts, faults, Class, class, digit_cell}
 use Rattle.language.specs.Tokens.{Form, counter_form, most_digits, closing_byte, form_fault, constant_form, Mode, idle, comment, after-tick, after-slash, after-access, number, printing}
 use Rattle.lexer.specs.Lexing.{SkipsTo, Means, Lexes, Takes}
 use Rattle.lexer.specs.declared.Lexed.{Lexed}
+use Rattle.lexer.specs.declared.Misread.{Misread}
 use Rattle.std.specs.Prelude.{Result, Ok, Err}
 use Rattle.language.specs.Tokens.{unless, first, numeral, numbered, scan_number, slashed, ticked, accessed, printed, commented, scan, finish, tokens}
 use Rattle.language.proofs.Tests.{by-ltb}
@@ -163,21 +164,31 @@ printed-more s from i h k =
 
 -- ── readings ────────────────────────────────────────────────────────────────────────────────────
 
+-- what `fault` gives after the first byte of a mark
+pub faulted : {t : List Token} (s : List ℕ) (from : ℕ) {w : Fault} {n : ℕ} {r : Result Lexed Misread} → r ≡ Err (record { fault = w; next = n }) → t ≡ begins ∷ faults w ∷ []
+    → from ≤ n → n ≤ length s → Lexes t s from r
+faulted {t} s from e m a i = subst (λ r. Lexes t s from r) (sym e) (record { means = m; after = a; inside = i })
+
+-- the same where a whole token is read, of which the bytes before the place are some
+pub takes-fault : {t : List Token} (s : List ℕ) (from : ℕ) {w : Fault} {n : ℕ} {r : Result Lexed Misread} → r ≡ Err (record { fault = w; next = n }) → t ≡ faults w ∷ []
+    → from < n → n ≤ length s → Takes t s from r
+takes-fault {t} s from e m f i = subst (λ r. Takes t s from r) (sym e) (record { means = inl m; further = f; inside = i })
+
 -- a reading from further on, where the tokens are those from here
-pub lexes-from : (t t' : List Token) (s : List ℕ) (a b : ℕ) (r : Result Lexed Fault) → t ≡ t' → a ≤ b → Lexes t' s b r → Lexes t s a r
+pub lexes-from : (t t' : List Token) (s : List ℕ) (a b : ℕ) (r : Result Lexed Misread) → t ≡ t' → a ≤ b → Lexes t' s b r → Lexes t s a r
 lexes-from t t' s a b (Ok l) e h q =
     record { means = subst (λ t. Means s l.token t (tokens (drop l.next s) idle)) (sym e) q.means; after = omega (arith, q.after); inside = q.inside }
-lexes-from t t' s a b (Err r) e h q = e ∙ q
+lexes-from t t' s a b (Err m) e h q = record { means = e ∙ q.means; after = omega (arith, q.after); inside = q.inside }
 
 -- the same for a token whose first byte is before b
-pub takes-from : (t t' : List Token) (s : List ℕ) (a b : ℕ) (r : Result Lexed Fault) → t ≡ t' → a < b → Lexes t' s b r → Takes t s a r
+pub takes-from : (t t' : List Token) (s : List ℕ) (a b : ℕ) (r : Result Lexed Misread) → t ≡ t' → a < b → Lexes t' s b r → Takes t s a r
 takes-from t t' s a b (Ok l) e h q =
     record {
       means = subst (λ t. Means s l.token t (tokens (drop l.next s) idle)) (sym e) q.means;
       further = λ _. omega (arith, q.after);
       inside = λ _. q.inside;
     }
-takes-from t t' s a b (Err r) e h q = inr (e ∙ q)
+takes-from t t' s a b (Err m) e h q = record { means = inr (e ∙ q.means); further = omega (arith, q.after); inside = q.inside }
 
 -- the tokens from a byte of a class on
 pub tokens-first : (s : List ℕ) (i : ℕ) → i < length s → (c : Class) → class (get_or s i 0) ≡ c → tokens (drop i s) idle ≡ first c (λ m. tokens (drop (i + 1) s) m)

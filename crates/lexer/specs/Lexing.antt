@@ -14,6 +14,7 @@ use Rattle.lexer.specs.declared.Kind.TheVariants as K
 use Rattle.lexer.specs.declared.Token as Lexer
 use Rattle.lexer.specs.declared.Token.TheVariants as T
 use Rattle.lexer.specs.declared.Lexed.{Lexed}
+use Rattle.lexer.specs.declared.Misread.{Misread}
 use Rattle.lexer.specs.declared.Number.{Number}
 
 -- ── the kind of a byte ──────────────────────────────────────────────────────────────────────────
@@ -153,10 +154,16 @@ pub record LexesTo (t : List Token) (s : List ℕ) (from : ℕ) (l : Lexed) : Ty
   pub after : from ≤ l.next
   pub inside : l.next ≤ length s
 
+-- a fault after the first byte of a mark
+pub record LexesFault (t : List Token) (s : List ℕ) (from : ℕ) (m : Misread) : Type 0 where
+  pub means : t ≡ begins ∷ faults m.fault ∷ []
+  pub after : from ≤ m.next
+  pub inside : m.next ≤ length s
+
 -- a reading after the first byte of a mark, where the tokens are t
-abbrev pub Lexes : List Token → List ℕ → ℕ → Result Lexed Fault → Type 0
+abbrev pub Lexes : List Token → List ℕ → ℕ → Result Lexed Misread → Type 0
 Lexes t s from (Ok l) = LexesTo t s from l
-Lexes t s from (Err r) = t ≡ begins ∷ faults r ∷ []
+Lexes t s from (Err m) = LexesFault t s from m
 
 -- where a whole token is read: all but the end of the text takes bytes of the text
 pub record TakesTo (t : List Token) (s : List ℕ) (from : ℕ) (l : Lexed) : Type 0 where
@@ -164,7 +171,13 @@ pub record TakesTo (t : List Token) (s : List ℕ) (from : ℕ) (l : Lexed) : Ty
   pub further : (l.token ≡ T.End → ⊥) → from < l.next
   pub inside : (l.token ≡ T.End → ⊥) → l.next ≤ length s
 
--- the reading of a whole token: a fault stands before a mark or in one
-abbrev pub Takes : List Token → List ℕ → ℕ → Result Lexed Fault → Type 0
+-- a fault before a mark or in one: it too takes bytes of the text
+pub record TakesFault (t : List Token) (s : List ℕ) (from : ℕ) (m : Misread) : Type 0 where
+  pub means : (t ≡ faults m.fault ∷ []) ⊎ (t ≡ begins ∷ faults m.fault ∷ [])
+  pub further : from < m.next
+  pub inside : m.next ≤ length s
+
+-- the reading of a whole token
+abbrev pub Takes : List Token → List ℕ → ℕ → Result Lexed Misread → Type 0
 Takes t s from (Ok l) = TakesTo t s from l
-Takes t s from (Err r) = (t ≡ faults r ∷ []) ⊎ (t ≡ begins ∷ faults r ∷ [])
+Takes t s from (Err m) = TakesFault t s from m

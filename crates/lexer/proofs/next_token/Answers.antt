@@ -1,16 +1,12 @@
 -- `next_token` meets its contract: the kind of a byte says what stands at its place.
 use Rattle.lexer.proofs.LexingMarks.{marked}
-use Rattle.lexer.proofs.Lexing.{tokens-end, takes-from, skipping-comment}
-use Rattle.lexer.specs.Lexing.{Takes}
+use Rattle.lexer.proofs.Lexing.{tokens-end, takes-from, takes-fault, skipping-comment}
 use Rattle.lexer.specs.declared.Kind.TheVariants as K
-use Rattle.language.specs.Tokens.{idle, finish, faults, tokens}
-use lib.ListN.{drop}
-use Rattle.std.proofs.lemmas.Result.{err_from_is_err_and}
+use Rattle.language.specs.Tokens.{idle, finish}
 use Prim.Native.Nat.{◌+◌}
 use native.Mathlib.Omega.{arith}
-use mathlib.Core.List.{[], ◌∷◌}
 use mathlib.Core.Logic.{inl, inr}
-use mathlib.Core.Path.{◌≡◌, refl, sym, ap, ◌∙◌, subst}
+use mathlib.Core.Path.{refl, sym, ◌∙◌}
 use Rattle.lexer.proofs.next_token.Goals as goal
 
 pub returns : goal.returns
@@ -60,23 +56,23 @@ returns-in-Tick c =
 
 pub returns-in-Digit : goal.returns-in-Digit
 returns-in-Digit c =
-    elim c.in-Digit.is [
-      | inl d ↦ inl (marked c.loop-at.invariant c.loop-at-test.true (c.type_inv.text c.loop-at.at).fits K.Digit (sym d ∙ c.kind_of.ensures))
-      | inr r ↦ inl (marked c.loop-at.invariant c.loop-at-test.true (c.type_inv.text c.loop-at.at).fits K.Stray (sym r ∙ c.kind_of.ensures))
-    ]
+    let i = c.loop-at.invariant in
+    let m = marked i c.loop-at-test.true (c.type_inv.text c.loop-at.at).fits in
+    takes-fault _ _ c.fault-in-Digit.ensures
+    (elim c.in-Digit.is [ inl d ↦ m K.Digit (sym d ∙ c.kind_of.ensures) | inr r ↦ m K.Stray (sym r ∙ c.kind_of.ensures) ])
+    (omega (arith, i.after)) (omega arith)
 
 pub loop-at-preserved-in-Blank : goal.loop-at-preserved-in-Blank
 loop-at-preserved-in-Blank c = marked c.loop-at.invariant c.loop-at-test.true (c.type_inv.text c.loop-at.at).fits K.Blank c.in-Blank.ensures
 
-pub returns-in_err-at-in-Quote : goal.returns-in_err-at-in-Quote
-returns-in_err-at-in-Quote c =
-    let r = err_from_is_err_and c.from_residual.result c.from_residual.ensures.1 in
-    let e : r.0 ≡ c.in_err-at-in-Quote.field-0.0 = r.2 in
-    subst (Takes (tokens (drop c.args.from c.args.text.now) idle) c.args.text.now c.args.from) (sym r.1)
-    (inl (marked c.loop-at.invariant c.loop-at-test.true (c.type_inv.text c.loop-at.at).fits K.Quote c.in-Quote.ensures
-    ∙ c.in_err-at-in-Quote.ensures ∙ ap (λ r. faults r ∷ []) (sym e)))
+pub returns-in-Err : goal.returns-in-Err
+returns-in-Err c =
+    let i = c.loop-at.invariant in
+    takes-fault _ _ c.fault.ensures
+    (marked i c.loop-at-test.true (c.type_inv.text c.loop-at.at).fits K.Quote c.in-Quote.ensures ∙ c.in-Err.ensures)
+    (omega (arith, i.after)) (omega arith)
 
 pub loop-at-preserved : goal.loop-at-preserved
 loop-at-preserved c =
-    skipping-comment c.args.text.now c.args.from c.loop-at.at c.in_ok-at-in-Quote.at c.loop-at.invariant.after c.loop-at-test.true
-    (marked c.loop-at.invariant c.loop-at-test.true (c.type_inv.text c.loop-at.at).fits K.Quote c.in-Quote.ensures) c.in_ok-at-in-Quote.ensures
+    skipping-comment c.args.text.now c.args.from c.loop-at.at c.in-Ok.after c.loop-at.invariant.after c.loop-at-test.true
+    (marked c.loop-at.invariant c.loop-at-test.true (c.type_inv.text c.loop-at.at).fits K.Quote c.in-Quote.ensures) c.in-Ok.ensures

@@ -1,5 +1,5 @@
 -- `print` meets its contract: the tokens from place i on, after the bytes before it, are those from the start of the print.
-use Rattle.lexer.proofs.Lexing.{tokens-end, print-end, print-on, print-stray, printed-more}
+use Rattle.lexer.proofs.Lexing.{tokens-end, print-end, print-on, print-stray, printed-more, faulted}
 use Rattle.language.specs.Syntax as Syntax
 use Rattle.language.specs.Tokens.{tokens, printing, idle, finish, begins, does}
 use lib.ListN.{drop, take}
@@ -27,8 +27,10 @@ returns-then-b-eq39 c =
 
 pub returns-then-not-is_printable : goal.returns-then-not-is_printable
 returns-then-not-is_printable c =
-    ap (λ k. begins ∷ k)
-    (sym c.loop-i.invariant ∙ print-stray c.args.text.now c.loop-i.i c.loop-i-test.true _ c.if-b-eq39.false (sym c.is_printable.ensures ∙ c.if-not-is_printable.true))
+    faulted _ _ c.fault.ensures
+    (ap (λ k. begins ∷ k)
+    (sym c.loop-i.invariant ∙ print-stray c.args.text.now c.loop-i.i c.loop-i-test.true _ c.if-b-eq39.false (sym c.is_printable.ensures ∙ c.if-not-is_printable.true)))
+    (omega arith) (omega arith)
 
 pub loop-i-preserved : goal.loop-i-preserved
 loop-i-preserved c =
@@ -41,4 +43,7 @@ loop-i-preserved c =
 
 pub returns : goal.returns
 unfolding finish
-returns c = ap (λ k. begins ∷ k) (sym c.loop-i.invariant ∙ tokens-end c.args.text.now c.loop-i.i _ c.loop-i-test.false)
+returns c =
+    faulted _ _ c.fault-2.ensures
+    (ap (λ k. begins ∷ k) (sym c.loop-i.invariant ∙ tokens-end c.args.text.now c.loop-i.i _ c.loop-i-test.false))
+    (omega arith) (omega arith)

@@ -1,5 +1,5 @@
 -- `quoted` meets its contract.
-use Rattle.lexer.proofs.Lexing.{tokens-end, tick-print, tick-slash, tick-bad, slash-minus, slash-plus, lexes-from}
+use Rattle.lexer.proofs.Lexing.{tokens-end, tick-print, tick-slash, tick-bad, slash-minus, slash-plus, lexes-from, faulted}
 use Rattle.language.specs.Tokens.{begins, finish, tokens, after-tick, after-slash, number, constant_form}
 use Prim.Native.Nat.{◌+◌}
 use lib.ListN.{drop}
@@ -11,7 +11,10 @@ use Rattle.lexer.proofs.quoted.Goals as goal
 
 pub returns-in-None : goal.returns-in-None
 unfolding finish
-returns-in-None c = ap (λ t. begins ∷ t) (tokens-end c.args.text.now c.args.at after-tick c.in-None.ensures.lookup.3)
+returns-in-None c =
+    faulted _ _ c.fault.ensures
+    (ap (λ t. begins ∷ t) (tokens-end c.args.text.now c.args.at after-tick c.in-None.ensures.lookup.3))
+    (omega arith) (omega arith)
 
 pub returns-in-Some-eq39 : goal.returns-in-Some-eq39
 returns-in-Some-eq39 c =
@@ -26,7 +29,9 @@ returns-in-None-get c =
     let s = c.args.text.now in
     let at = c.args.at in
     let b = c.in-Some-eq47.ensures.lookup.3 in
-    ap (λ t. begins ∷ t) (tick-slash s at b.0 (sym (b.1 0) ∙ c.in-Some-eq47.field-0-test) ∙ tokens-end s (at + 1) after-slash c.in-None-get.ensures.lookup.3)
+    faulted _ _ c.fault-in-None-get.ensures
+    (ap (λ t. begins ∷ t) (tick-slash s at b.0 (sym (b.1 0) ∙ c.in-Some-eq47.field-0-test) ∙ tokens-end s (at + 1) after-slash c.in-None-get.ensures.lookup.3))
+    (omega arith) (omega arith)
 
 pub returns-in-Some-eq45 : goal.returns-in-Some-eq45
 returns-in-Some-eq45 c =
@@ -57,4 +62,6 @@ pub returns-in-Some : goal.returns-in-Some
 returns-in-Some c =
     let b = c.in-Some.ensures.lookup.3 in
     let n = c.in-Some.field-0-test in
-    ap (λ t. begins ∷ t) (tick-bad c.args.text.now c.args.at b.0 (λ e. n.0.1 (b.1 0 ∙ e)) (λ e. n.1 (b.1 0 ∙ e)))
+    faulted _ _ c.fault-in-Some.ensures
+    (ap (λ t. begins ∷ t) (tick-bad c.args.text.now c.args.at b.0 (λ e. n.0.1 (b.1 0 ∙ e)) (λ e. n.1 (b.1 0 ∙ e))))
+    (omega arith) (omega arith)

@@ -1,7 +1,7 @@
 -- `variable` meets its contract.
 use Rattle.language.specs.Bytes.{digit_byte}
 use Rattle.language.proofs.Between.{between-low, between-high}
-use Rattle.lexer.proofs.Lexing.{tokens-end, access-zero, access-digit, access-bad}
+use Rattle.lexer.proofs.Lexing.{tokens-end, access-zero, access-digit, access-bad, faulted}
 use Rattle.language.specs.Syntax.{variable}
 use Rattle.language.specs.Tokens.{begins, does, idle, tokens, after-access, finish}
 use lib.ListN.{get_or, drop}
@@ -10,23 +10,28 @@ use native.Mathlib.Omega.{arith}
 use mathlib.Core.List.{◌∷◌}
 use mathlib.Core.Path.{sym, ap, ◌∙◌}
 use Rattle.lexer.proofs.variable.Goals as goal
-use Rattle.lexer.proofs.variable.Goals.{in-48, in-49-to-57}
+use Rattle.lexer.proofs.variable.Goals.{in-48, in-49-to-57, in_default-d-via-then-d-lt48, in_default-d-via-else-d-lt48+else-d-lt58}
 
 pub returns-in_default : goal.returns-in_default
 unfolding finish
-returns-in_default c = λ a e. ap (λ t. begins ∷ t) (tokens-end c.args.text.now c.args.at (after-access a) c.in_default.ensures.lookup.3)
+returns-in_default c = λ a e.
+    faulted _ _ c.fault.ensures
+    (ap (λ t. begins ∷ t) (tokens-end c.args.text.now c.args.at (after-access a) c.in_default.ensures.lookup.3))
+    (omega arith) (omega arith)
 
 pub returns-in_default-d : goal.returns-in_default-d
 returns-in_default-d c = λ a e.
+    let s = c.args.text.now in
+    let i = c.args.at in
     let b = c.in-Some.ensures.lookup.3 in
-    ap (λ t. begins ∷ t)
-    (access-bad c.args.text.now c.args.at b.0 a (between-low (digit_byte 0) (digit_byte 9) (get_or c.args.text.now c.args.at 0) (omega (arith, b.1 0))))
-
-pub returns-in_default-d-2 : goal.returns-in_default-d-2
-returns-in_default-d-2 c = λ a e.
-    let b = c.in-Some.ensures.lookup.3 in
-    ap (λ t. begins ∷ t)
-    (access-bad c.args.text.now c.args.at b.0 a (between-high (digit_byte 0) (digit_byte 9) (get_or c.args.text.now c.args.at 0) (omega (arith, b.1 0))))
+    faulted _ _ c.fault-in_default-d.ensures
+    (ap (λ t. begins ∷ t)
+    (access-bad s i b.0 a
+    (elim c.in_default-d.branch [
+      | in_default-d-via-then-d-lt48 w ↦ between-low (digit_byte 0) (digit_byte 9) (get_or s i 0) (omega (arith, b.1 0))
+      | in_default-d-via-else-d-lt48+else-d-lt58 w ↦ between-high (digit_byte 0) (digit_byte 9) (get_or s i 0) (omega (arith, b.1 0))
+    ])))
+    (omega arith) (omega arith)
 
 pub returns : goal.returns
 returns c = λ a e.

@@ -10,8 +10,8 @@ loop-draft-init c = starts_out c.args.text.now c.args.from _ c.requires.draft-bl
 
 pub returns-in_err-lexed : goal.returns-in_err-lexed
 returns-in_err-lexed c =
-    let r : parsed_from c.args.text.now c.args.from ≡ refused c.in_err-lexed.field-0.0 =
-    is_faulty _ _ c.loop-draft.draft _ c.loop-draft.invariant c.loop-draft-test.true c.in_err-lexed.ensures in
+    let r : parsed_from c.args.text.now c.args.from ≡ refused c.in_err-lexed.field-0.0.fault =
+    is_faulty _ _ c.loop-draft.draft _ c.loop-draft.invariant c.loop-draft-test.true c.in_err-lexed.ensures.means in
     search rules
 
 pub returns-in_err-take : goal.returns-in_err-take
