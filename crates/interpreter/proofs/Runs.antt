@@ -22,7 +22,7 @@ use Rattle.operands.specs.Held.{Held, state_of, configuration_of, turned as turn
 use Rattle.operands.specs.Turns.{due_at}
 use Rattle.operands.proofs.Held.{length-frames}
 use Rattle.operands.specs.declared.cells.Code.{Code}
-use Rattle.interpreter.specs.Runs.{Counted, report_of, report_from, was_stopped, Driven}
+use Rattle.interpreter.specs.Runs.{Counted, Ends, report_of, report_from, was_stopped, Driven}
 use Rattle.interpreter.specs.Fetching.{fetched}
 use Rattle.interpreter.proofs.Cells.{decode-within}
 use Rattle.interpreter.proofs.Allowed.{Allowed, AllowedTurn, decoded-allowed}
@@ -205,10 +205,6 @@ stretch-more n o r h₀ p h h' st loop z turned letters counted c u k w f =
 
 -- ── the end ─────────────────────────────────────────────────────────────────────────────────────
 
--- a status of a run that is over
-abbrev pub Ends : Status → Type 0
-Ends s = (s ≡ Goes → ⊥) × (s ≡ Enters → ⊥)
-
 module _ (n : ℕ) (o : List ℕ) (r : Outcome) (h : Held) (loop : Looping n o r h) (over : h.machine.status ≡ Goes → ⊥) (outside : h.machine.status ≡ Enters → ⊥) where
   -- the list and the output are as a run leaves them
   pub lent : Lent o (state_of h)
@@ -244,4 +240,4 @@ module _ (n : ℕ) (o : List ℕ) (r : Outcome) (h : Held) (loop : Looping n o r
 
   -- what the end says
   pub driven : Driven n r h.machine h.variables h.stack h.output
-  driven = record { left = left_le; reply = reply }
+  driven = record { ends = (over, outside); left = left_le; reply = reply }

@@ -57,6 +57,10 @@ was_stopped Enters = false
 was_stopped (Over t) = false
 was_stopped (Stopped e) = true
 
+-- a status of a run that is over
+abbrev pub Ends : Status → Type 0
+Ends s = (s ≡ Goes → ⊥) × (s ≡ Enters → ⊥)
+
 -- the report of the machine's numbers for a status, after an allowance of n
 abbrev pub report_of : Status → ℕ → Machine → Report
 report_of s n m =
@@ -76,6 +80,7 @@ report_from n m = report_of m.status n m
 -- The run r is over with the machine's numbers m, the variables w, the list's places p and the output o. "Only a finished run changes variables; any
 -- other leaves them as before it."
 pub record Driven (n : ℕ) (r : Outcome) (m : Machine) (w p : List ℤ) (o : List ℕ) : Type 0 where
+  pub ends : Ends m.status
   pub left : m.left ≤ n
   pub reply : (v : List ℤ)
       → replied (report_from n m) p o (cond (was_stopped m.status) v w) ≡ reported v n r
