@@ -65,35 +65,42 @@ flags_of p = flags-same max_letters p (is_flagged (flags_by max_letters p)) (λ 
 pub marked : (l : List Bool) (b : ℕ) → is_flagged (marks_of l) b ≡ get_or l b false
 marked l b = ap (λ x. eqb x 1) (get_or-map flag l b false) ∙ flag-back (get_or l b false)
 
--- the first i letters are those of a test
-pub record Flagging (p : ℕ → Bool) (l : List Bool) (i : ℕ) : Type 0 where
+-- the first i elements are those that p gives; d stands for what is past the list
+pub record Flagging {A : Type 0} (d : A) (p : ℕ → A) (l : List A) (i : ℕ) : Type 0 where
   pub size : length l ≡ max_letters
   pub few : i ≤ max_letters
-  pub done : (b : ℕ) → b < i → get_or l b false ≡ p b
+  pub done : (b : ℕ) → b < i → get_or l b d ≡ p b
 
-pub flagging-more : (p : ℕ → Bool) (l : List Bool) (i : ℕ) (v : Bool) → Flagging p l i → i < max_letters → v ≡ p i → Flagging p (set l i v) (i + 1)
-flagging-more p l i v k h e =
+pub flagging-more : {A : Type 0} (d : A) (p : ℕ → A) (l : List A) (i : ℕ) (v : A) → Flagging d p l i → i < max_letters → v ≡ p i
+    → Flagging d p (set l i v) (i + 1)
+flagging-more d p l i v k h e =
     record {
       size = length-set l i v ∙ k.size;
       few = omega arith;
       done = λ b j. go b j (eqb b i) refl;
     }
   where
-    go : (b : ℕ) → b < i + 1 → (u : Bool) → eqb b i ≡ u → get_or (set l i v) b false ≡ p b
+    go : (b : ℕ) → b < i + 1 → (u : Bool) → eqb b i ≡ u → get_or (set l i v) b d ≡ p b
     go b j true q =
         let z : b ≡ i = eqb-true b i q in
-        subst (λ x. get_or (set l i v) x false ≡ p x) (sym z) (get_or-set_same l i v false (omega (arith, k.size)) ∙ e)
+        subst (λ x. get_or (set l i v) x d ≡ p x) (sym z) (get_or-set_same l i v d (omega (arith, k.size)) ∙ e)
     go b j false q =
         let ne = eqb-false b i q in
-        get_or-set_other l i b v false ne ∙ k.done b (omega (arith, ne))
+        get_or-set_other l i b v d ne ∙ k.done b (omega (arith, ne))
 
 -- all of them
-pub flagging-done : (p q : ℕ → Bool) (l : List Bool) (i : ℕ) → Flagging p l i → max_letters ≤ i → ((b : ℕ) → b < max_letters → p b ≡ q b) → marks_of l ≡ flags_by max_letters q
+pub flagging-done : (p q : ℕ → Bool) (l : List Bool) (i : ℕ) → Flagging false p l i → max_letters ≤ i → ((b : ℕ) → b < max_letters → p b ≡ q b) → marks_of l ≡ flags_by max_letters q
 flagging-done p q l n k m h =
     let size : length (marks_of l) ≡ max_letters = length-map l flag ∙ k.size in
     ext_get_or 0 (marks_of l) (flags_by max_letters q) (size ∙ sym (length-flags max_letters q))
     (λ b j. let i : b < max_letters = subst (λ n. b < n) size j in
     get_or-map flag l b false ∙ ap flag (k.done b (omega arith) ∙ h b i) ∙ sym (get_or-flags max_letters q b i))
+
+-- the marks of a list as long as the letters
+pub proper : (l : List Bool) → length l ≡ max_letters → Flags (marks_of l)
+proper l e =
+    flagging-done (λ b. get_or l b false) (is_flagged (marks_of l)) l max_letters (record { size = e; few = omega arith; done = λ b h. refl }) (omega arith)
+    (λ b h. sym (marked l b))
 
 pub not-not : (u : Bool) → u ≡ not (not u)
 not-not true = refl

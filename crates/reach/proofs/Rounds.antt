@@ -17,9 +17,9 @@ use Rattle.language.proofs.Between.{between-bounds}
 use Rattle.language.proofs.Tests.{both_true, first-true, second-true}
 use Rattle.book.specs.Store.{Store}
 use Rattle.marks.specs.Formats.{ticked}
-use Rattle.reach.specs.Reach.{called_by, is_flagged, any_of, each_of, spread, spread_by, most_calls, readable}
-use Rattle.reach.specs.Rounds.{rows, Flags, ReadsAll, marks_of, follows_to}
-use Rattle.reach.proofs.Flags.{flags_of, marked}
+use Rattle.reach.specs.Reach.{called_by, flags_by, is_flagged, any_of, each_of, spread, spread_by, most_calls, readable}
+use Rattle.reach.specs.Rounds.{rows, in_array, Flags, ReadsAll, with_row}
+use Rattle.reach.proofs.Flags.{flagged-by, flags-same, flags_of}
 
 -- ── counts ──────────────────────────────────────────────────────────────────────────────────────
 
@@ -91,9 +91,18 @@ module _ (st : Store) (u c : List ℕ) (a : ℕ) (g : Gathering st u c a) where
 
 -- ── a round ─────────────────────────────────────────────────────────────────────────────────────
 
+-- tests joined
+or-false : (u : Bool) → u ≡ (u || false)
+or-false true = refl
+or-false false = refl
+
 pub or-true : (u : Bool) → (u || true) ≡ true
 or-true true = refl
 or-true false = refl
+
+or_assoc : (u v w : Bool) → ((u || v) || w) ≡ (u || (v || w))
+or_assoc true v w = refl
+or_assoc false v w = refl
 
 -- where one of them passes, one of them does
 pub any-of : (n a : ℕ) (p : ℕ → Bool) → a < n → p a ≡ true → any_of n p ≡ true
@@ -104,21 +113,47 @@ any-of (suc n) a p h e = go (eqb a n) refl (λ k. any-of n a p k e)
     go true q f = ap (λ x. any_of n p || x) (sym (ap p (eqb-true a n q)) ∙ e) ∙ or-true (any_of n p)
     go false q f = rw (f (let ne = eqb-false a n q in omega (arith, ne)))
 
--- the same letters, by their marks
-pub followed-marks : (f : ℕ → ℕ → Bool) (l : List Bool) (b : ℕ)
-    → follows_to f l b ≡ (is_flagged (marks_of l) b || any_of max_letters (λ a. is_flagged (marks_of l) a && f a b))
-followed-marks f l b = λ i. sym (marked l b) i || any_of max_letters (λ a. sym (marked l a) i && f a b)
+-- what is marked, and what the first n letters that are marked call
+abbrev pub spread_to : ℕ → (ℕ → ℕ → Bool) → List ℕ → List ℕ
+spread_to n f m = flags_by max_letters (λ b. is_flagged m b || any_of n (λ a. is_flagged m a && f a b))
 
--- a letter that is none of them, and that none of them calls
-pub follows-none : (f : ℕ → ℕ → Bool) (l : List Bool) (b n : ℕ) → get_or l b false ≡ false → any_of n (λ a. get_or l a false && f a b) ≡ false
-    → n ≡ max_letters → false ≡ follows_to f l b
-follows-none f l b n e h z =
-    sym (ap (λ u. u || any_of max_letters (λ a. get_or l a false && f a b)) e ∙ subst (λ k. any_of k (λ a. get_or l a false && f a b) ≡ false) z h)
+-- the letters before a have been gone through
+pub record Spreading (c m x : List ℕ) (a : ℕ) : Type 0 where
+  pub few : a ≤ max_letters
+  pub next : x ≡ spread_to a (in_array c) m
 
--- a letter that one of them calls
-pub follows-one : (f : ℕ → ℕ → Bool) (l : List Bool) (b a : ℕ) → a < max_letters → get_or l a false ≡ true → f a b ≡ true → true ≡ follows_to f l b
-follows-one f l b a h e k =
-    sym (ap (λ u. get_or l b false || u) (any-of max_letters a (λ a. get_or l a false && f a b) h (rw (e, k))) ∙ or-true (get_or l b false))
+pub spreading-none : (c m : List ℕ) → Flags m → Spreading c m m 0
+spreading-none c m h = record { few = omega arith; next = h ∙ flags-same max_letters (is_flagged m) _ (λ b _. or-false (is_flagged m b)) }
+
+module _ (c m x : List ℕ) (a : ℕ) (s : Spreading c m x a) where
+  -- a letter that is marked: its row
+  pub spreading-row : (y : List ℕ) → a < max_letters → is_flagged m a ≡ true → y ≡ with_row c (a * max_letters) x → Spreading c m y (a + 1)
+  unfolding with_row
+  spreading-row y h q e =
+      subst (Spreading c m y) (sym (add-one a))
+      (record {
+        few = omega arith;
+        next = e ∙ ap (λ z. with_row c (a * max_letters) z) s.next
+            ∙ flags-same max_letters _ _ (λ b h.
+            ap (λ z. z || in_array c a b) (flagged-by (λ b. is_flagged m b || any_of a (λ k. is_flagged m k && in_array c k b)) b h)
+            ∙ or_assoc (is_flagged m b) (any_of a (λ k. is_flagged m k && in_array c k b)) (in_array c a b)
+            ∙ ap (λ z. is_flagged m b || (any_of a (λ k. is_flagged m k && in_array c k b) || (z && in_array c a b))) (sym q));
+      })
+
+  -- one that is not
+  pub spreading-past : a < max_letters → is_flagged m a ≡ false → Spreading c m x (a + 1)
+  spreading-past h q =
+      subst (Spreading c m x) (sym (add-one a))
+      (record {
+        few = omega arith;
+        next = s.next ∙ flags-same max_letters _ _ (λ b h.
+            ap (λ z. is_flagged m b || z) (or-false (any_of a (λ k. is_flagged m k && in_array c k b)))
+            ∙ ap (λ z. is_flagged m b || (any_of a (λ k. is_flagged m k && in_array c k b) || (z && in_array c a b))) (sym q));
+      })
+
+  pub spreading-done : max_letters ≤ a → x ≡ spread (in_array c) m
+  unfolding spread
+  spreading-done h = let e : a ≡ max_letters = let f = s.few in omega arith in s.next ∙ ap (λ n. spread_to n (in_array c) m) e
 
 -- ── round after round ───────────────────────────────────────────────────────────────────────────
 

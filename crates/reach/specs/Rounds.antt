@@ -1,10 +1,10 @@
 -- What the code's functions answer: the calls of all letters in one array, and marks that go round by round.
-use Rattle.std.specs.Prelude.{◌≡◌, ℕ, zero, suc, ◌+◌, ◌*◌, ◌<◌, Bool, true, false, cond, ◌||◌, ◌&&◌, List, [], map, ℤ, get_or, replicate}
+use Rattle.std.specs.Prelude.{◌≡◌, ℕ, zero, suc, ◌+◌, ◌*◌, ◌<◌, Bool, true, cond, ◌||◌, List, [], map, ℤ, get_or, replicate}
 use Rattle.language.specs.Limits.{max_letters}
 use Rattle.language.specs.Tables.{sound_count, sound_used}
 use Rattle.book.specs.Store.{Store, store_of}
 use Rattle.marks.specs.Formats.{call_places, ticked}
-use Rattle.reach.specs.Reach.{called_by, flags_by, is_flagged, any_of, each_of, readable}
+use Rattle.reach.specs.Reach.{called_by, flags_by, is_flagged, each_of, readable}
 
 -- ── the calls of all letters ────────────────────────────────────────────────────────────────────
 
@@ -51,6 +51,6 @@ Flags m = m ≡ flags_by max_letters (is_flagged m)
 abbrev pub marks_of : List Bool → List ℕ
 marks_of l = map (λ u. cond u 1 0) l
 
--- letter b is one of the list, or called by one, where f says which letter calls which
-abbrev pub follows_to : (ℕ → ℕ → Bool) → List Bool → ℕ → Bool
-follows_to f l b = get_or l b false || any_of max_letters (λ a. get_or l a false && f a b)
+-- what is marked, and the row of the array that starts at place `from`
+unfoldable pub with_row : List ℕ → ℕ → List ℕ → List ℕ
+with_row c from m = flags_by max_letters (λ b. is_flagged m b || is_flagged c (from + b))

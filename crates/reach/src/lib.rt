@@ -1,12 +1,12 @@
 // What a letter can reach: which letters it may call, through however many others, and which of those have no text.
 #![tactic(auto)]
 
-ghost use Rattle.std.specs.Prelude.{◌≡◌, ◌<◌, ◌&&◌};
-ghost use Rattle.language.specs.Limits.{max_letters};
+ghost use Rattle.std.specs.Prelude.{◌≡◌};
 ghost use Rattle.book.specs.Store.{store_of};
+ghost use Rattle.marks.specs.Formats.{Row};
 ghost use Rattle.reach.specs.Errors.{error_number, reach_number};
 ghost use Rattle.reach.specs.Reach.{spread, spread_by, most_calls, missing_of, reports, reach};
-ghost use Rattle.reach.specs.Rounds.{tables, in_array, Counted, ReadsOne, Clear, ReadsAll, marks_of, follows_to};
+ghost use Rattle.reach.specs.Rounds.{tables, in_array, Counted, ReadsOne, Clear, ReadsAll, marks_of, with_row};
 ghost use Rattle.reach.specs.declared.ReachError.TheVariants.{Refused};
 
 use admission::View;
@@ -94,29 +94,28 @@ fn read_all(cells: &[i32; STORE_CELLS], used: &[usize; LETTERS], calls: &mut [u8
 
 // ── the letters that are reached ────────────────────────────────────────────────────────────────
 
-// A call further: whether letter `b` is one of those reached, or is called by one of them.
-fn follows(calls: &[u8; CALLS], reached: &[bool; LETTERS], b: usize) -> bool
-    requires { b < max_letters }
-    ensures { result ≡ follows_to (in_array calls.now) reached.now b }
+// What is reached, and what the row of the calls that starts at `from` has.
+fn with_row(calls: &[u8; CALLS], from: usize, reached: [bool; LETTERS]) -> [bool; LETTERS]
+    requires { Row from }
+    ensures { marks_of result ≡ with_row calls.now from (marks_of reached) }
 {
-    if reached[b] {
-        return true;
+    let mut next = reached;
+    for b in 0..LETTERS {
+        next[b] = reached[b] | (calls[from + b] == 1);
     }
-    for a in 0..LETTERS {
-        if reached[a] && calls[a * LETTERS + b] == 1 {
-            return true;
-        }
-    }
-    false
+    next
 }
 
-// The same of every letter.
+// A call further: what is reached, and what a letter that is reached calls.
 fn spread(calls: &[u8; CALLS], reached: &[bool; LETTERS]) -> [bool; LETTERS]
     ensures { marks_of result ≡ spread (in_array calls.now) (marks_of reached.now) }
 {
-    let mut next = [false; LETTERS];
-    for b in 0..LETTERS {
-        next[b] = follows(calls, reached, b);
+    let mut next = *reached;
+    for a in 0..LETTERS {
+        if reached[a] {
+            let more = with_row(calls, a * LETTERS, next);
+            next = more;
+        }
     }
     next
 }
@@ -142,7 +141,7 @@ fn without_text(used: &[usize; LETTERS], reached: &[bool; LETTERS]) -> [bool; LE
 {
     let mut missing = [false; LETTERS];
     for b in 0..LETTERS {
-        missing[b] = reached[b] && used[b] == 0;
+        missing[b] = reached[b] & (used[b] == 0);
     }
     missing
 }
@@ -151,7 +150,11 @@ fn without_text(used: &[usize; LETTERS], reached: &[bool; LETTERS]) -> [bool; LE
 fn marks(letters: [bool; LETTERS]) -> [u8; LETTERS]
     ensures { result ≡ marks_of letters }
 {
-    letters.map(|letter| u8::from(letter))
+    let mut marks = [0; LETTERS];
+    for b in 0..LETTERS {
+        marks[b] = u8::from(letters[b]);
+    }
+    marks
 }
 
 // ── the report ──────────────────────────────────────────────────────────────────────────────────

@@ -1,7 +1,7 @@
 -- `reach::spread` meets its contract.
-use Rattle.reach.specs.Rounds.{in_array, follows_to}
-use Rattle.reach.proofs.Flags.{Flagging}
+use Rattle.reach.specs.Rounds.{marks_of}
+use Rattle.reach.proofs.Rounds.{Spreading}
 use Rattle.reach.proofs.spread.Given as goal
 
-abbrev pub invariant-loop-b : goal.invariant-loop-b
-invariant-loop-b l = Flagging (λ b. follows_to (in_array l.calls) l.reached b) l.next l.b
+abbrev pub invariant-loop-a : goal.invariant-loop-a
+invariant-loop-a l = Spreading l.calls (marks_of l.reached) (marks_of l.next) l.a

@@ -1,12 +1,16 @@
 -- `reach::without_text` meets its contract.
-use mathlib.Core.Path.{sym}
+use mathlib.Core.Path.{refl, sym}
 use mathlib.Core.Bool.{false, ◌&&◌}
 use native.Mathlib.Omega.{arith}
 use lib.ListN.{get_or}
 use lib.Dec.{eqb}
 use Rattle.reach.specs.Reach.{missing_of}
-use Rattle.reach.proofs.Flags.{marked, flagging-done, not-not}
+use Rattle.reach.proofs.Flags.{marked, flagging-more, flagging-done, not-not}
 use Rattle.reach.proofs.without_text.Goals as goal
+
+pub loop-b-preserved : goal.loop-b-preserved
+loop-b-preserved c =
+    flagging-more false (λ b. get_or c.args.reached.now b false && eqb (get_or c.args.used.now b 0) 0) _ _ _ c.loop-b.invariant (omega arith) refl
 
 pub returns : goal.returns
 unfolding missing_of
