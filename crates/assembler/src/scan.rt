@@ -29,8 +29,9 @@ fn take(draft: &mut Draft, text: &[u8], token: Token) -> Result<(), Fault>
     }
 }
 
-// From the place after the outermost `(` to the place after its `)`.
+// From the place after the outermost `(` to the place after its `)`. It stays apart from what comes before and after it, which would cost the loop registers.
 #[tactic(auto, using(crate::proofs::Scanning::bounds, crate::proofs::Scanning::fine, crate::proofs::Scanning::not_end, crate::proofs::Scanning::ends_whole))]
+#[inline(never)]
 pub fn scan(text: &[u8], from: usize, draft: &mut Draft) -> Result<usize, Fault>
     requires { Blank text.now draft.old }
     ensures { Scans text.now from result draft.new }

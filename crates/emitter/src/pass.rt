@@ -26,7 +26,7 @@ pub enum Open {
 
 // The nesting level, the used cells and the counters so far; for each cell its value and what is open in it; and for each level the first cell of its
 // expression.
-#[derive(Drop)]
+#[derive(Clone, Copy)]
 pub struct Draft {
     pub level: usize,
     pub used: usize,

@@ -11,8 +11,7 @@ use Rattle.language.specs.Syntax.{Expr}
 use Rattle.language.specs.Reading.{Reading, refused, accepted, read}
 use Rattle.language.proofs.Grammar.{reading-sound}
 use Rattle.std.specs.Prelude.{Ok}
-use Rattle.language.specs.declared.Table.{Table}
-use Rattle.linker.specs.Linked.{linked}
+use Rattle.linker.specs.Linked.{judged}
 use Rattle.numerals.specs.Numerals.{Written, wrote, written, delivers}
 use Rattle.numerals.proofs.Numerals.{written-room, delivered-whole, delivered-short}
 use Rattle.faircopy.specs.FairCopy.{fair_copy, short_paper, copied}
@@ -23,20 +22,20 @@ use Rattle.faircopy.proofs.Claims.{copy-shorter}
 abbrev blank : List ℕ
 blank = replicate max_text 0
 
--- the text s links to a table
-module _ (s : List ℕ) (t : Table) (link : Ok t ≡ linked (read s)) where
+-- the text s is accepted
+module _ (s : List ℕ) (accept : Ok tt ≡ judged (read s)) where
   pub accepted-text : Copies s blank
-  accepted-text = go (read s) refl link
+  accepted-text = go (read s) refl accept
     where
-      go : (r : Reading) → read s ≡ r → Ok t ≡ linked r → Copies s blank
+      go : (r : Reading) → read s ≡ r → Ok tt ≡ judged r → Copies s blank
       go (refused f) h k = absurd cc
       go (accepted w) h k = record { expression = w; reads = h; room = let l = (reading-sound s w h).limits.text in omega arith }
 
 -- and n bytes, which are its copy, were written at the start of the buffer
-module _ (s : List ℕ) (t : Table) (link : Ok t ≡ linked (read s)) (n : ℕ) (o' : List ℕ)
+module _ (s : List ℕ) (accept : Ok tt ≡ judged (read s)) (n : ℕ) (o' : List ℕ)
     (f : (w : Expr) → read s ≡ accepted w → wrote n o' ≡ written blank 0 (fair_copy w)) where
   abbrev c : Copies s blank
-  c = accepted-text s t link
+  c = accepted-text s accept
 
   abbrev fc : List ℕ
   fc = fair_copy c.expression

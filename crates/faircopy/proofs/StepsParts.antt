@@ -162,6 +162,12 @@ zeros-last (b ∷ []) h = go (eqb b (digit_byte 0))
     go false = refl
 zeros-last (b ∷ d ∷ l) h = absurd (omega arith)
 
+-- a 0 before a digit is a leading one
+pub zeros-more : (l : List ℕ) → 2 ≤ length l → get_or l 0 0 ≡ digit_byte 0 → digit_byte 0 ≤ get_or l 1 0 → drop (zeros (tail l)) (tail l) ≡ drop (zeros l) l
+zeros-more [] h z n = absurd (omega arith)
+zeros-more (b ∷ []) h z n = absurd (omega arith)
+zeros-more (b ∷ d ∷ l) h z n = rw (tail-drop (b ∷ d ∷ l), eq-eqb b (digit_byte 0) z, le-leb (digit_byte 0) d n)
+
 -- ── the sign ────────────────────────────────────────────────────────────────────────────────────
 
 -- no `-`, since none is said, or no digit comes or a 0

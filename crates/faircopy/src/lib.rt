@@ -10,7 +10,7 @@ ghost use Rattle.faircopy.specs.declared.CopyError.TheVariants.{BadText};
 ghost use Rattle.faircopy.specs.Steps.{reach, zeros, through_step, counter_step, sign_bytes, digits_step, constant_step, tick_step, step_of, Moves, Fits, Copies};
 
 use language::{Fault, TEXT};
-use linker::link;
+use linker::accept;
 use numerals::write_bytes;
 
 // "Errors: 30 short paper, the copy does not fit, after the linker's numbers."
@@ -214,7 +214,7 @@ fn copy_text(text: &[u8], out: &mut [u8]) -> usize
 pub fn fair_copy(text: &[u8], paper: &mut [u8]) -> Result<usize, CopyError>
     ensures { delivers (copy_number result) (length_of result) paper.new ≡ copied paper.old (read text.now) }
 {
-    link(text)?;
+    accept(text)?;
     let mut copy = [0u8; TEXT];
     let count = copy_text(text, &mut copy);
     if paper.len() < count {

@@ -3,14 +3,16 @@
 
 ghost use Rattle.std.specs.Prelude.{◌≡◌, ◌<◌};
 ghost use Rattle.language.specs.Limits.{max_letters};
+ghost use Rattle.language.specs.Reading.{read};
+ghost use Rattle.linker.specs.Linked.{linked};
 ghost use Rattle.book.specs.Calls.{defines, withdraws};
 ghost use Rattle.book.specs.Refusals.{answer_number};
 ghost use Rattle.book.specs.Store.{store_of, fresh_store, store_call, changed};
-ghost use Rattle.lent.specs.Lent.{Puts};
+ghost use Rattle.lent.specs.Lent.{Puts, PutsText};
 
 use admission::View;
 use book::Refusal;
-use language::{LETTERS, OPEN, STORE_CELLS, Table, VARIABLES};
+use language::{Fault, LETTERS, OPEN, STORE_CELLS, Table, VARIABLES};
 
 // The entry of letter `k` is replaced: its table, its used-cell count and its permission.
 fn put(
@@ -28,6 +30,25 @@ fn put(
     cells[base..base + Table::CELLS].copy_from_slice(&table.cells);
     used[k] = table.used;
     permissions[k] = permission;
+}
+
+// The same with the table of a text, or the text's first fault, and nothing is replaced. The cells are linked into their place.
+fn put_text(
+    cells: &mut [i32; STORE_CELLS],
+    used: &mut [usize; LETTERS],
+    permissions: &mut [u32; LETTERS],
+    k: usize,
+    text: &[u8],
+    permission: u32,
+) -> Result<(), Fault>
+    requires { k < max_letters }
+    ensures { PutsText cells.old used.old permissions.old k (linked (read text.now)) permission result cells.new used.new permissions.new }
+{
+    let base = k * Table::CELLS;
+    let count = linker::link_over(text, &mut cells[base..base + Table::CELLS])?;
+    used[k] = count;
+    permissions[k] = permission;
+    Ok(())
 }
 
 // Every letter cleared and open, every variable 0, whatever the arrays held.
@@ -66,8 +87,7 @@ pub fn define(
     }
     .define(letter, permission)?;
     let k = admission::index(letter);
-    let table = linker::link(text)?;
-    put(cells, used, permissions, k, table, permission);
+    put_text(cells, used, permissions, k, text, permission)?;
     Ok(())
 }
 

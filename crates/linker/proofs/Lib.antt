@@ -1,2 +1,3 @@
 pub mod LinkedText
+pub mod LinkedOver
 pub mod Examples

@@ -127,6 +127,10 @@ module _ (s : List ℕ) (from n : ℕ) (d : Draft) (e : Ends s from n d) where
   pub link-unskipped-after : (r : Fault) → tokens (drop n s) idle ≡ faults r ∷ [] → Err r ≡ linked (parsed_from s from)
   link-unskipped-after r q = sym (ap linked (e.goes_on ∙ after-fault _ r e.expr q))
 
+  pub link-counts : (f : Draft) → f ≡ settled d → f.used ≡ d.used
+  unfolding settled
+  link-counts f h = ap (λ (x : Draft). x.used) h
+
   module _ (j : ℕ) (k : SkipsTo (tokens (drop n s) idle) s n j) where
     pub link-stray-after : j < length s → get_or s j 0 < 256 → MarkAt s j → Err StrayMark ≡ linked (parsed_from s from)
     link-stray-after l b m =
@@ -137,3 +141,7 @@ module _ (s : List ℕ) (from n : ℕ) (d : Draft) (e : Ends s from n d) where
     link-whole l f h =
         (λ i. Ok (record { used = (ap (λ (x : Draft). x.used) h ∙ e.ready.all) i; cells = (ap (λ (x : Draft). x.cells) h ∙ e.ready.cells_are) i }))
         ∙ sym (ap linked (e.goes_on ∙ ap (λ t. parse t (whole e.expr)) k.tokens-are ∙ after-end s j e.expr l))
+
+    pub link-unfilled : length s ≤ j → Ok (record { used = d.used; cells = (settled d).cells }) ≡ linked (parsed_from s from)
+    unfolding settled
+    link-unfilled l = link-whole l (settled d) refl

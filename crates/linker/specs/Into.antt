@@ -1,10 +1,27 @@
 -- A text linked into lent places, as C asks for it.
-use Rattle.std.specs.Prelude.{List, ℕ, min, ℤ, length}
+use Rattle.std.specs.Prelude.{Result, Ok, Err, List, ℕ, min, ℤ, length}
 use Rattle.std.proofs.Math.Seq.{paste}
+use Rattle.language.specs.declared.Fault.{Fault}
+use Rattle.language.specs.declared.Table.{Table}
 use Rattle.language.specs.Answers.{fault_number}
 use Rattle.language.specs.Layout.{layout}
 use Rattle.language.specs.Limits.{max_cells}
 use Rattle.language.specs.Reading.{Reading, refused, accepted}
+
+-- the answer of a link and the lent places
+pub record LinkedOver : Type 0 where
+  pub answer : Result ℕ Fault
+  pub places : List ℤ
+
+-- both together
+abbrev pub links_over : Result ℕ Fault → List ℤ → LinkedOver
+links_over r p = record { answer = r; places = p }
+
+-- What a text links to, over the lent places p: its used-cell count, and in the places the table's cells, up to 250 of them; or its fault, and the places
+-- as they were.
+abbrev pub linked_over : List ℤ → Result Table Fault → LinkedOver
+linked_over p (Ok t) = links_over (Ok t.used) (paste p 0 t.cells (min max_cells (length p)))
+linked_over p (Err r) = links_over (Err r) p
 
 -- the number that is returned, the used-cell count and the lent places
 pub record LinkedInto : Type 0 where

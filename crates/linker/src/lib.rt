@@ -5,8 +5,8 @@ ghost use Rattle.std.specs.Prelude.{◌≡◌, ◌≤◌, length};
 ghost use Rattle.language.specs.Limits.{max_text};
 ghost use Rattle.language.specs.Reading.{read};
 ghost use Rattle.assembler.specs.Scanning.{parsed_from};
-ghost use Rattle.linker.specs.Linked.{linked, link_number};
-ghost use Rattle.linker.specs.Into.{links_into, linked_into};
+ghost use Rattle.linker.specs.Linked.{linked, judged, link_number};
+ghost use Rattle.linker.specs.Into.{links_over, linked_over, links_into, linked_into};
 
 use assembler::exits::fill;
 use assembler::scan::scan;
@@ -14,10 +14,10 @@ use emitter::pass::Draft;
 use language::{Fault, TEXT, Table};
 use lexer::skip;
 
-// From the place after the outermost `(` on.
-fn link_from(text: &[u8], from: usize) -> Result<Table, Fault>
+// From the place after the outermost `(` on, as `link_over` does it.
+fn link_from(text: &[u8], from: usize, places: &mut [i32]) -> Result<usize, Fault>
     requires { length text.now ≤ max_text }
-    ensures { result ≡ linked (parsed_from text.now from) }
+    ensures { links_over result places.new ≡ linked_over places.old (linked (parsed_from text.now from)) }
 {
     let mut draft = Draft::fresh();
     let next = scan(text, from, &mut draft)?;
@@ -25,16 +25,21 @@ fn link_from(text: &[u8], from: usize) -> Result<Table, Fault>
     if end < text.len() {
         return Err(Fault::StrayMark);
     }
+    let used = draft.used;
+    // Who only asks whether a text links needs no cells.
+    if places.is_empty() {
+        return Ok(used);
+    }
     fill(&mut draft);
-    Ok(Table {
-        used: draft.used,
-        cells: draft.cells,
-    })
+    let n = places.len().min(Table::CELLS);
+    places[..n].copy_from_slice(&draft.cells[..n]);
+    Ok(used)
 }
 
-// The code table of a source text, or the text's first fault.
-pub fn link(text: &[u8]) -> Result<Table, Fault>
-    ensures { result ≡ linked (read text.now) }
+// The used-cell count of a source text, with its table's cells in the places that are lent, up to 250 of them; the other places stay as they were. Or the
+// text's first fault, and every place stays.
+pub fn link_over(text: &[u8], places: &mut [i32]) -> Result<usize, Fault>
+    ensures { links_over result places.new ≡ linked_over places.old (linked (read text.now)) }
 {
     if TEXT < text.len() {
         return Err(Fault::LongText);
@@ -42,9 +47,26 @@ pub fn link(text: &[u8]) -> Result<Table, Fault>
     let at = skip(text, 0)?;
     match text.get(at) {
         None => Err(Fault::Unfinished),
-        Some(b'(') => link_from(text, at + 1),
+        Some(b'(') => link_from(text, at + 1, places),
         Some(_) => Err(Fault::StrayMark),
     }
+}
+
+// Whether a source text links, or its first fault; no table is made.
+pub fn accept(text: &[u8]) -> Result<(), Fault>
+    ensures { result ≡ judged (read text.now) }
+{
+    link_over(text, &mut [])?;
+    Ok(())
+}
+
+// The code table of a source text, or the text's first fault.
+pub fn link(text: &[u8]) -> Result<Table, Fault>
+    ensures { result ≡ linked (read text.now) }
+{
+    let mut table = Table::fresh();
+    table.used = link_over(text, &mut table.cells)?;
+    Ok(table)
 }
 
 // ── for C ───────────────────────────────────────────────────────────────────────────────────────
@@ -53,22 +75,19 @@ pub fn link(text: &[u8]) -> Result<Table, Fault>
 pub fn check(text: &[u8]) -> u32
     ensures { result ≡ link_number (linked (read text.now)) }
 {
-    match link(text) {
+    match accept(text) {
         Ok(_) => 0,
         Err(fault) => fault.number(),
     }
 }
 
-// The same number. An accepted text gives its used-cell count, and its table's cells in the places that are lent, up to 250 of them; the other places
-// stay as they were. A refused one gives a count of 0, and every place stays.
+// The same number, and `link_over` for C: a refused text gives a count of 0.
 pub fn link_into(text: &[u8], cells: &mut [i32], used: &mut usize) -> u32
     ensures { links_into result used.new cells.new ≡ linked_into cells.old (read text.now) }
 {
-    match link(text) {
-        Ok(table) => {
-            *used = table.used;
-            let n = cells.len().min(Table::CELLS);
-            cells[..n].copy_from_slice(&table.cells[..n]);
+    match link_over(text, cells) {
+        Ok(count) => {
+            *used = count;
             0
         }
         Err(fault) => {

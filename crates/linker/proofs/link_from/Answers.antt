@@ -1,6 +1,9 @@
 -- `link_from` meets its contract.
+use mathlib.Core.Path.{ap}
 use native.Mathlib.Omega.{arith}
-use Rattle.linker.proofs.LinkedText.{link-unskipped-after, link-stray-after, link-whole}
+use borrow.Author.Rules.{rules}
+use Rattle.linker.specs.Into.{linked_over}
+use Rattle.linker.proofs.LinkedText.{link-unskipped-after, link-stray-after, link-whole, link-unfilled, link-counts}
 use Rattle.linker.proofs.link_from.Goals as goal
 
 pub returns-in_err-end : goal.returns-in_err-end
@@ -10,9 +13,17 @@ returns-in_err-end c =
 
 pub returns-then-end-text : goal.returns-then-end-text
 returns-then-end-text c =
-    link-stray-after c.args.text.now c.args.from _ _ c.in_ok-next.ensures c.in_ok-end.end c.in_ok-end.ensures.skips c.if-end-text.true
-    (omega (arith, c.type_inv.text c.in_ok-end.end)) c.in_ok-end.ensures.settles
+    ap (linked_over c.args.places.now)
+    (link-stray-after c.args.text.now c.args.from _ _ c.in_ok-next.ensures c.in_ok-end.end c.in_ok-end.ensures.skips c.if-end-text.true
+    (omega (arith, c.type_inv.text c.in_ok-end.end)) c.in_ok-end.ensures.settles)
+
+pub returns-then-is_empty : goal.returns-then-is_empty
+returns-then-is_empty c =
+    let e = link-unfilled c.args.text.now c.args.from _ _ c.in_ok-next.ensures c.in_ok-end.end c.in_ok-end.ensures.skips c.if-end-text.false in
+    rw (← e) grind arith
 
 pub returns : goal.returns
 returns c =
-    link-whole c.args.text.now c.args.from _ _ c.in_ok-next.ensures c.in_ok-end.end c.in_ok-end.ensures.skips c.if-end-text.false _ c.fill.ensures
+    let e = link-whole c.args.text.now c.args.from _ _ c.in_ok-next.ensures c.in_ok-end.end c.in_ok-end.ensures.skips c.if-end-text.false _ c.fill.ensures in
+    let u = link-counts c.args.text.now c.args.from _ _ c.in_ok-next.ensures _ c.fill.ensures in
+    rw (← e, u) search rules
