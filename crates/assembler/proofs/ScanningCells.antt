@@ -10,9 +10,9 @@ use Rattle.language.specs.Letters.{letter_byte}
 use Rattle.language.specs.Syntax.{print_code, Operation, operator, variable, constant, print, Predicate, condition, counter, Expr, close, semi, colon, operate, test, call, inner}
 use Rattle.language.specs.Layout.{after_operation, after_predicate, after_call, after_expr, false_exit, used_cells, opcode, byte_cells, operation_cells, predicate_cells, expr_cells, first_cell, code_start, layout}
 use Rattle.emitter.specs.declared.pass.Open.{Open}
-use Rattle.emitter.specs.declared.pass.Open.TheVariants.{Known}
+use Rattle.emitter.specs.declared.pass.Open.TheVariants.{Known, Exit, End, Close, Colon}
 use Rattle.emitter.specs.declared.pass.Draft.{Draft}
-use Rattle.emitter.specs.Drafts.{Cell, known, level_places, put, lay}
+use Rattle.emitter.specs.Drafts.{Cell, known, level_places, opened_in, put, lay}
 use Rattle.assembler.specs.Exits.{filled, linked, nothing_ahead, level_of}
 use Rattle.assembler.specs.Scanning.{Ready}
 use Rattle.assembler.proofs.ExitsLayout.{emit, backs, laid}
@@ -41,6 +41,15 @@ set-used : {A : Type 0} (f : Cell → A) (s : List A) (u : ℕ) (R : List Cell) 
     → set s u y ≡ onto f R (y ∷ X)
 set-used f s u R x y X e k = ap (λ s. set s u y) e ∙ ap (λ u. set (onto f R (x ∷ X)) u y) k ∙ set_next f R x X y
 
+-- the cells not used yet are known
+open-used : (s : List Open) (u : ℕ) (R : List Cell) (o : Open) (n : ℕ) → s ≡ onto waits_of R (replicate (suc n) Known) → u ≡ length R
+    → opened_in s u o ≡ onto waits_of R (o ∷ replicate n Known)
+open-used s u R Known n e k = e
+open-used s u R (Exit v) n e k = set-used waits_of s u R _ _ _ e k
+open-used s u R (End v) n e k = set-used waits_of s u R _ _ _ e k
+open-used s u R (Close v) n e k = set-used waits_of s u R _ _ _ e k
+open-used s u R (Colon v) n e k = set-used waits_of s u R _ _ _ e k
+
 -- what one more cell leaves alone
 pub record Kept (d e : Draft) : Type 0 where
   pub level-kept : e.level ≡ d.level
@@ -51,7 +60,7 @@ put-cells : (d : Draft) (R : List Cell) (n : ℕ) (c : Cell) → level_of c.wait
 put-cells d R n c h k =
     record {
       values-are = set-used value_of _ _ R _ _ _ k.values-are k.used-is;
-      opens-are = set-used waits_of _ _ R _ _ _ k.opens-are k.used-is;
+      opens-are = open-used _ _ R c.waits n k.opens-are k.used-is;
       used-is = omega (arith, k.used-is);
       room = omega (arith, k.room);
       low = (h, k.low);

@@ -43,8 +43,9 @@ impl Exits {
     }
 }
 
-// The used cells, from the last one back.
+// The used cells, from the last one back. It stays apart from the first pass, whose loop it would cost registers.
 #[tactic(auto, using(crate::proofs::ExitsFilling::filled_down, crate::proofs::ExitsFilling::filled_none), unfolding(crate::specs::Exits::linked, crate::specs::Exits::settled))]
+#[inline(never)]
 pub fn fill(draft: &mut Draft)
     requires { Fillable draft.old }
     ensures { draft.new ≡ linked draft.old }

@@ -8,6 +8,7 @@ use Rattle.language.specs.declared.Fault.TheVariants.{Deep, TableFull, ManyCount
 use Rattle.emitter.specs.declared.pass.Open.{Open}
 use Rattle.emitter.specs.declared.pass.Open.TheVariants.{Known, Exit, End, Close, Colon}
 use Rattle.emitter.specs.declared.pass.Draft.{Draft}
+use Rattle.emitter.specs.declared.pass.Pass.{Pass}
 
 -- ── cells ───────────────────────────────────────────────────────────────────────────────────────
 
@@ -58,9 +59,21 @@ fresh =
       starts = set (replicate level_places (pos 0)) 1 (pos code_start);
     }
 
+-- the draft, with the pass where p says
+abbrev pub draft_at : Draft → Pass → Draft
+draft_at d p = record d { level = p.level; used = p.used }
+
+-- what is open in the cells, with this in cell i too; a known cell stands, since it is one that was not used yet
+abbrev pub opened_in : List Open → ℕ → Open → List Open
+opened_in os i Known = os
+opened_in os i (Exit v) = set os i (Exit v)
+opened_in os i (End v) = set os i (End v)
+opened_in os i (Close v) = set os i (Close v)
+opened_in os i (Colon v) = set os i (Colon v)
+
 -- one more cell
 abbrev pub put : Draft → Cell → Draft
-put d c = record d { used = d.used + 1; cells = set d.cells d.used c.holds; opens = set d.opens d.used c.waits }
+put d c = record d { used = d.used + 1; cells = set d.cells d.used c.holds; opens = opened_in d.opens d.used c.waits }
 
 -- more cells
 abbrev pub lay : Draft → List Cell → Draft
@@ -143,7 +156,19 @@ abbrev pub Steps : (Draft → Result Draft Fault) → Draft → Result ⊤ Fault
 Steps step d (Ok r) e = step d ≡ Ok e
 Steps step d (Err why) e = (step d ≡ Err why) × (e ≡ d)
 
+-- One more cell, after which the pass is at q. The draft's own level and used cells stay.
+pub record Puts (c : Cell) (d : Draft) (p : Pass) (e : Draft) (q : Pass) : Type 0 where
+  pub cell_is : draft_at e q ≡ put (draft_at d p) c
+  pub level-kept : e.level ≡ d.level
+  pub used-kept : e.used ≡ d.used
+
+-- The pass goes from p to q, and the draft from d to e, as a step says, and the answer is r. The draft's own level and used cells stay.
+pub record Marks (step : Draft → Result Draft Fault) (d : Draft) (p : Pass) (r : Result ⊤ Fault) (e : Draft) (q : Pass) : Type 0 where
+  pub steps : Steps step (draft_at d p) r (draft_at e q)
+  pub level-kept : e.level ≡ d.level
+  pub used-kept : e.used ≡ d.used
+
 -- The answer whether there is room for n cells more.
-abbrev pub HasRoom : Draft → ℕ → Result ⊤ Fault → Type 0
-HasRoom d n (Ok r) = d.used + n ≤ max_cells
-HasRoom d n (Err why) = (max_cells < d.used + n) × (why ≡ TableFull)
+abbrev pub HasRoom : Pass → ℕ → Result ⊤ Fault → Type 0
+HasRoom p n (Ok r) = p.used + n ≤ max_cells
+HasRoom p n (Err why) = (max_cells < p.used + n) × (why ≡ TableFull)

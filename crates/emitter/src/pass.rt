@@ -2,8 +2,8 @@
 ghost use Rattle.std.specs.Prelude.{◌≡◌, [], ◌∷◌, ◌≤◌, ◌<◌};
 ghost use Rattle.language.specs.Limits.{max_cells, max_levels};
 ghost use Rattle.language.specs.Layout.{opcode};
-ghost use Rattle.emitter.specs.Drafts.{known, semi_at, cell, put, fit, fresh, opened, closed, coloned, operand_cells, test_cells, counted, print_cells};
-ghost use Rattle.emitter.specs.Drafts.{Inside, Countable, Printable, HasRoom, Steps};
+ghost use Rattle.emitter.specs.Drafts.{known, semi_at, cell, draft_at, fit, fresh, opened, closed, coloned, operand_cells, test_cells, counted, print_cells};
+ghost use Rattle.emitter.specs.Drafts.{Inside, Countable, Printable, HasRoom, Puts, Marks};
 
 use language::{Fault, PRINT_CODE, Table};
 
@@ -24,8 +24,16 @@ pub enum Open {
     Colon(u8),
 }
 
-// The nesting level, the used cells and the counters so far; for each cell its value and what is open in it; and for each level the first cell of its
-// expression.
+// Where the pass is: the nesting level and the used cells so far. It stands apart from the cells that it lays: within them, each mark would wait for the one
+// before to be stored.
+#[derive(Clone, Copy)]
+pub struct Pass {
+    pub level: usize,
+    pub used: usize,
+}
+
+// The level and the used cells that a pass begins or has ended with; the counters so far; for each cell its value and what is open in it; and for each level
+// the first cell of its expression.
 #[derive(Clone, Copy)]
 pub struct Draft {
     pub level: usize,
@@ -36,7 +44,7 @@ pub struct Draft {
     pub starts: [i32; LEVEL_PLACES],
 }
 
-#[tactic(auto, using(crate::proofs::Drafts::fit_room, crate::proofs::Drafts::fit_full, crate::proofs::Drafts::open_room, crate::proofs::Drafts::open_full, crate::proofs::Drafts::close_last, crate::proofs::Drafts::close_inner, crate::proofs::Drafts::count_room, crate::proofs::Drafts::count_full, crate::proofs::Drafts::bytes_length, crate::proofs::Drafts::bytes_past), unfolding(crate::specs::Drafts::fresh, crate::specs::Drafts::coloned))]
+#[tactic(auto, unfolding(crate::specs::Drafts::fresh))]
 impl Draft {
     // Inside the outermost `(`, after cell 1.
     pub fn fresh() -> Draft
@@ -55,6 +63,16 @@ impl Draft {
             starts,
         }
     }
+}
+
+#[tactic(auto, using(crate::proofs::Drafts::fit_room, crate::proofs::Drafts::fit_full, crate::proofs::Drafts::open_room, crate::proofs::Drafts::open_full, crate::proofs::Drafts::close_last, crate::proofs::Drafts::close_inner, crate::proofs::Drafts::count_room, crate::proofs::Drafts::count_full, crate::proofs::Drafts::bytes_length, crate::proofs::Drafts::bytes_past), unfolding(crate::specs::Drafts::fresh, crate::specs::Drafts::coloned))]
+impl Pass {
+    // Inside the outermost `(`, after cell 1.
+    pub fn fresh() -> Pass
+        ensures { draft_at fresh result ≡ fresh }
+    {
+        Pass { level: 1, used: 1 }
+    }
 
     // Whether there is room for so many cells more.
     fn room(&self, more: usize) -> Result<(), Fault>
@@ -67,23 +85,25 @@ impl Draft {
         Ok(())
     }
 
-    // One more cell.
-    fn put(&mut self, value: i32, waits: Open)
+    // One more cell. A cell not used yet is known.
+    fn put(&mut self, draft: &mut Draft, value: i32, waits: Open)
         requires { self.old.used < max_cells }
-        ensures { self.new ≡ put self.old (cell value waits) }
+        ensures { Puts (cell value waits) draft.old self.old draft.new self.new }
     {
         let at = self.used;
-        self.cells[at] = value;
-        self.opens[at] = waits;
+        draft.cells[at] = value;
+        if waits != Open::Known {
+            draft.opens[at] = waits;
+        }
         self.used = at + 1;
     }
 
     // An opcode's cell: "A mark's code is minus its byte".
-    fn code(&mut self, code: u16)
+    fn code(&mut self, draft: &mut Draft, code: u16)
         requires { self.old.used < max_cells }
-        ensures { self.new ≡ put self.old (known (opcode code)) }
+        ensures { Puts (known (opcode code)) draft.old self.old draft.new self.new }
     {
-        self.put(-i32::from(code), Open::Known);
+        self.put(draft, -i32::from(code), Open::Known);
     }
 
     // The level as a cell has it.
@@ -95,123 +115,119 @@ impl Draft {
     }
 
     // A mark of one cell.
-    pub fn operator(&mut self, b: u8) -> Result<(), Fault>
-        requires { Inside self.old }
-        ensures { Steps (λ d. fit d (known (opcode b) ∷ [])) self.old result self.new }
+    pub fn operator(&mut self, draft: &mut Draft, b: u8) -> Result<(), Fault>
+        requires { Inside (draft_at draft.old self.old) }
+        ensures { Marks (λ d. fit d (known (opcode b) ∷ [])) draft.old self.old result draft.new self.new }
     {
         self.room(1)?;
-        self.code(u16::from(b));
+        self.code(draft, u16::from(b));
         Ok(())
     }
 
     // A variable's or a constant's opcode and its value.
-    pub fn operand(&mut self, code: u8, value: i32) -> Result<(), Fault>
-        requires { Inside self.old }
-        ensures { Steps (λ d. fit d (operand_cells code value)) self.old result self.new }
+    pub fn operand(&mut self, draft: &mut Draft, code: u8, value: i32) -> Result<(), Fault>
+        requires { Inside (draft_at draft.old self.old) }
+        ensures { Marks (λ d. fit d (operand_cells code value)) draft.old self.old result draft.new self.new }
     {
         self.room(2)?;
-        self.code(u16::from(code));
-        self.put(value, Open::Known);
+        self.code(draft, u16::from(code));
+        self.put(draft, value, Open::Known);
         Ok(())
     }
 
     // A predicate's or a call's opcode and its false exit.
-    pub fn test(&mut self, b: u8) -> Result<(), Fault>
-        requires { Inside self.old }
-        ensures { Steps (λ d. fit d (test_cells b d.level)) self.old result self.new }
+    pub fn test(&mut self, draft: &mut Draft, b: u8) -> Result<(), Fault>
+        requires { Inside (draft_at draft.old self.old) }
+        ensures { Marks (λ d. fit d (test_cells b d.level)) draft.old self.old result draft.new self.new }
     {
         self.room(2)?;
-        self.code(u16::from(b));
-        self.put(0, Open::Exit(self.depth()));
+        self.code(draft, u16::from(b));
+        self.put(draft, 0, Open::Exit(self.depth()));
         Ok(())
     }
 
     // A counter's opcode, -n, its order in the text and its false exit.
-    pub fn counter(&mut self, n: u32) -> Result<(), Fault>
-        requires { Countable self.old n }
-        ensures { Steps (λ d. counted d n) self.old result self.new }
+    pub fn counter(&mut self, draft: &mut Draft, n: u32) -> Result<(), Fault>
+        requires { Countable (draft_at draft.old self.old) n }
+        ensures { Marks (λ d. counted d n) draft.old self.old result draft.new self.new }
     {
-        let order = self.counters;
+        let order = draft.counters;
         if Table::COUNTERS <= order {
             return Err(Fault::ManyCounters);
         }
         self.room(4)?; // "9 before 8"
-        self.counters = order + 1;
-        self.code(u16::from(COUNTER_CODE));
-        self.code(n as u16);
-        self.put(order as i32, Open::Known);
-        self.put(0, Open::Exit(self.depth()));
+        draft.counters = order + 1;
+        self.code(draft, u16::from(COUNTER_CODE));
+        self.code(draft, n as u16);
+        self.put(draft, order as i32, Open::Known);
+        self.put(draft, 0, Open::Exit(self.depth()));
         Ok(())
     }
 
     // A `;`.
-    pub fn semicolon(&mut self) -> Result<(), Fault>
-        requires { Inside self.old }
-        ensures { Steps (λ d. fit d (semi_at d.level ∷ [])) self.old result self.new }
+    pub fn semicolon(&mut self, draft: &mut Draft) -> Result<(), Fault>
+        requires { Inside (draft_at draft.old self.old) }
+        ensures { Marks (λ d. fit d (semi_at d.level ∷ [])) draft.old self.old result draft.new self.new }
     {
         self.room(1)?;
-        self.put(0, Open::End(self.depth()));
+        self.put(draft, 0, Open::End(self.depth()));
         Ok(())
     }
 
     // A `:`, which holds the first cell of its expression.
-    pub fn colon(&mut self) -> Result<(), Fault>
-        requires { Inside self.old }
-        ensures { Steps coloned self.old result self.new }
+    pub fn colon(&mut self, draft: &mut Draft) -> Result<(), Fault>
+        requires { Inside (draft_at draft.old self.old) }
+        ensures { Marks coloned draft.old self.old result draft.new self.new }
     {
         self.room(1)?;
-        let start = self.starts[self.level];
-        self.put(start, Open::Colon(self.depth()));
+        let start = draft.starts[self.level];
+        self.put(draft, start, Open::Colon(self.depth()));
         Ok(())
     }
 
     // A `(` inside the outermost one.
-    pub fn open(&mut self) -> Result<(), Fault>
-        requires { Inside self.old }
-        ensures { Steps opened self.old result self.new }
+    pub fn open(&mut self, draft: &mut Draft) -> Result<(), Fault>
+        requires { Inside (draft_at draft.old self.old) }
+        ensures { Marks opened draft.old self.old result draft.new self.new }
     {
         if Table::LEVELS <= self.level {
             return Err(Fault::Deep);
         }
         let deeper = self.level + 1;
-        self.starts[deeper] = (self.used + 1) as i32;
+        draft.starts[deeper] = (self.used + 1) as i32;
         self.level = deeper;
         Ok(())
     }
 
     // A `)`, which belongs to the expression around it; the last one has two cells.
-    pub fn close(&mut self) -> Result<(), Fault>
-        requires { Inside self.old }
-        ensures { Steps closed self.old result self.new }
+    pub fn close(&mut self, draft: &mut Draft) -> Result<(), Fault>
+        requires { Inside (draft_at draft.old self.old) }
+        ensures { Marks closed draft.old self.old result draft.new self.new }
     {
         if self.level == 1 {
             self.room(2)?; // "both its cells"
             self.level = 0;
-            self.put(0, Open::Close(0));
-            self.put(1, Open::Known);
+            self.put(draft, 0, Open::Close(0));
+            self.put(draft, 1, Open::Known);
             return Ok(());
         }
         self.room(1)?;
         self.level -= 1;
-        self.put(0, Open::Close(self.depth()));
+        self.put(draft, 0, Open::Close(self.depth()));
         Ok(())
     }
 
     // A print's opcode, its length and its bytes.
-    pub fn print(&mut self, bytes: &[u8]) -> Result<(), Fault>
-        requires { Printable self.old bytes.now }
-        ensures { Steps (λ d. fit d (print_cells bytes.now)) self.old result self.new }
+    pub fn print(&mut self, draft: &mut Draft, bytes: &[u8]) -> Result<(), Fault>
+        requires { Printable (draft_at draft.old self.old) bytes.now }
+        ensures { Marks (λ d. fit d (print_cells bytes.now)) draft.old self.old result draft.new self.new }
     {
         self.room(2 + bytes.len())?;
-        self.code(u16::from(PRINT_CODE));
-        self.put(bytes.len() as i32, Open::Known);
-        // With `put` for each byte a print took 1.3 times as long.
-        let at = self.used;
+        self.code(draft, u16::from(PRINT_CODE));
+        self.put(draft, bytes.len() as i32, Open::Known);
         for i in 0..bytes.len() {
-            self.cells[at + i] = i32::from(bytes[i]);
-            self.opens[at + i] = Open::Known;
+            self.put(draft, i32::from(bytes[i]), Open::Known);
         }
-        self.used = at + bytes.len();
         Ok(())
     }
 }

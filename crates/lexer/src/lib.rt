@@ -148,10 +148,10 @@ fn digits(text: &[u8], from: usize, form: NumberForm) -> Result<Number, Fault>
     let mut value: u32 = 0;
     for i in from..text.len() {
         let b = text[i];
-        if b == form.close && from < i {
-            return Ok(Number { value, next: i + 1 });
-        }
         if !b.is_ascii_digit() || i - from == form.most {
+            if b == form.close && from < i {
+                return Ok(Number { value, next: i + 1 });
+            }
             return Err(form.fault);
         }
         value = 10 * value + u32::from(b - b'0');
