@@ -12,7 +12,7 @@ use Rattle.language.specs.Layout.{after_operation, after_predicate, after_call, 
 use Rattle.emitter.specs.declared.pass.Open.{Open}
 use Rattle.emitter.specs.declared.pass.Open.TheVariants.{Known, Exit, End, Close, Colon}
 use Rattle.emitter.specs.declared.pass.Draft.{Draft}
-use Rattle.emitter.specs.Drafts.{Cell, known, level_places, opened_in, put, lay}
+use Rattle.emitter.specs.Drafts.{Cell, known, level_places, opened_in, pass_put, pass_lay}
 use Rattle.assembler.specs.Exits.{filled, linked, nothing_ahead, level_of}
 use Rattle.assembler.specs.Scanning.{Ready}
 use Rattle.assembler.proofs.ExitsLayout.{emit, backs, laid}
@@ -56,7 +56,7 @@ pub record Kept (d e : Draft) : Type 0 where
   pub counters-kept : e.counters ≡ d.counters
   pub starts-kept : e.starts ≡ d.starts
 
-put-cells : (d : Draft) (R : List Cell) (n : ℕ) (c : Cell) → level_of c.waits ≤ max_levels → Cells d R (suc n) → Cells (put d c) (c ∷ R) n
+put-cells : (d : Draft) (R : List Cell) (n : ℕ) (c : Cell) → level_of c.waits ≤ max_levels → Cells d R (suc n) → Cells (pass_put d c) (c ∷ R) n
 put-cells d R n c h k =
     record {
       values-are = set-used value_of _ _ R _ _ _ k.values-are k.used-is;
@@ -66,27 +66,27 @@ put-cells d R n c h k =
       low = (h, k.low);
     }
 
-lay-cells : (d : Draft) (R : List Cell) (n : ℕ) (cs : List Cell) → Low cs → Cells d R (length cs + n) → Cells (lay d cs) (pile cs R) n
+lay-cells : (d : Draft) (R : List Cell) (n : ℕ) (cs : List Cell) → Low cs → Cells d R (length cs + n) → Cells (pass_lay d cs) (pile cs R) n
 lay-cells d R n [] h k = let e : 0 + n ≡ n = omega arith in rw e at k
 lay-cells d R n (c ∷ cs) h k =
     let e : suc (length cs) + n ≡ suc (length cs + n) = omega arith in
-    lay-cells (put d c) (c ∷ R) n cs h.1 (put-cells d R (length cs + n) c h.0 (rw e at k))
+    lay-cells (pass_put d c) (c ∷ R) n cs h.1 (put-cells d R (length cs + n) c h.0 (rw e at k))
 
 -- where there is room
-pub grown : (d : Draft) (R : List Cell) (n : ℕ) (cs : List Cell) → Low cs → Cells d R n → d.used + length cs ≤ max_cells → Cells (lay d cs) (pile cs R) (n - length cs)
+pub grown : (d : Draft) (R : List Cell) (n : ℕ) (cs : List Cell) → Low cs → Cells d R n → d.used + length cs ≤ max_cells → Cells (pass_lay d cs) (pile cs R) (n - length cs)
 grown d R n cs h k r =
     let e : n ≡ length cs + (n - length cs) = omega (arith, k.room, k.used-is) in
     lay-cells d R (n - length cs) cs h (rw e at k)
 
-pub lay-kept : (d : Draft) (cs : List Cell) → Kept d (lay d cs)
+pub lay-kept : (d : Draft) (cs : List Cell) → Kept d (pass_lay d cs)
 lay-kept d [] = record { level-kept = refl; counters-kept = refl; starts-kept = refl }
 lay-kept d (c ∷ cs) =
-    let k = lay-kept (put d c) cs in
+    let k = lay-kept (pass_put d c) cs in
     record { level-kept = k.level-kept; counters-kept = k.counters-kept; starts-kept = k.starts-kept }
 
-pub lay-used : (d : Draft) (cs : List Cell) → (lay d cs).used ≡ d.used + length cs
+pub lay-used : (d : Draft) (cs : List Cell) → (pass_lay d cs).used ≡ d.used + length cs
 lay-used d [] = omega arith
-lay-used d (c ∷ cs) = omega (arith, lay-used (put d c) cs)
+lay-used d (c ∷ cs) = omega (arith, lay-used (pass_put d c) cs)
 
 -- ── the levels are small ────────────────────────────────────────────────────────────────────────
 

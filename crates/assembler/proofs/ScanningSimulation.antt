@@ -23,12 +23,12 @@ use Rattle.lexer.specs.declared.Token as Lexer
 use Rattle.lexer.specs.declared.Token.TheVariants as T
 use Rattle.lexer.specs.Lexing.{Means}
 use Rattle.emitter.specs.declared.pass.Draft.{Draft}
-use Rattle.emitter.specs.Drafts.{level_places, Cell, known, semi_at, close_at, colon_at, lay, fit, at_level, opened, closed, coloned, operand_cells, test_cells, counter_cells, count_on, counted, known_bytes}
+use Rattle.emitter.specs.Drafts.{level_places, Cell, known, semi_at, close_at, colon_at, pass_lay, pass_fit, at_level, opened, pass_closed, pass_coloned, operand_cells, test_cells, counter_cells, count_on, pass_counted, known_bytes}
 use Rattle.assembler.specs.Taking.{taken}
 use Rattle.assembler.specs.Scanning.{Ready}
 use Rattle.language.proofs.LayoutPositions.{forward-add}
 use Rattle.language.proofs.Tests.{by-ltb}
-use Rattle.emitter.proofs.Drafts.{fit_room, fit_full, open_room, open_full, close_last, close_inner, count_room, count_full, bytes_length}
+use Rattle.emitter.proofs.Drafts.{pass_fit_room, pass_fit_full, open_room, open_full, pass_close_last, pass_close_inner, pass_count_room, pass_count_full, bytes_length}
 use Rattle.assembler.proofs.ExitsLayout.{operation_draft, predicate_draft, call_draft, emit}
 use Rattle.assembler.proofs.ExitsFilling.{Low}
 use Rattle.assembler.proofs.ScanningCells.{pile, pile-append, Cells, grown, lay-kept, lay-used, text_cells, head_cell, ready}
@@ -111,7 +111,7 @@ module _ (l : List Token) (d : Draft) (f g : Expr → Expr) (st : List (Expr →
     (own : (e : Expr) (r : List Cell) → emit (g e) (length st) im.start q r ≡ cs ++ emit e (length st) im.start q' r)
     (past : (e : Expr) → after_expr (g e) q ≡ after_expr e q')
   where
-    image : d.used + length cs ≤ max_cells → Image (lay d cs) (λ e. f (g e)) st q' c
+    image : d.used + length cs ≤ max_cells → Image (pass_lay d cs) (λ e. f (g e)) st q' c
     image h =
         let k = lay-kept d cs in
         record {
@@ -133,12 +133,12 @@ module _ (l : List Token) (d : Draft) (f g : Expr → Expr) (st : List (Expr →
           around = subst (Around st im.start im.outer) (sym k.starts-kept) im.around;
         }
 
-    extended : Outcome (extend (λ e. f (g e)) st q' c (λ p. parse l p)) l (fit d cs)
+    extended : Outcome (extend (λ e. f (g e)) st q' c (λ p. parse l p)) l (pass_fit d cs)
     extended =
-        by-leb (d.used + length cs) max_cells (Outcome (extend (λ e. f (g e)) st q' c (λ p. parse l p)) l (fit d cs))
-        (λ h. subst (λ x. Outcome (extend (λ e. f (g e)) st q' c (λ p. parse l p)) l x) (sym (fit_room d cs h))
+        by-leb (d.used + length cs) max_cells (Outcome (extend (λ e. f (g e)) st q' c (λ p. parse l p)) l (pass_fit d cs))
+        (λ h. subst (λ x. Outcome (extend (λ e. f (g e)) st q' c (λ p. parse l p)) l x) (sym (pass_fit_room d cs h))
         (goes (λ e. f (g e)) st q' c (extend-room (λ e. f (g e)) st q' c (λ p. parse l p) (omega (arith, far, im.size))) (image h)))
-        (λ h. subst (λ x. Outcome (extend (λ e. f (g e)) st q' c (λ p. parse l p)) l x) (sym (fit_full d cs h))
+        (λ h. subst (λ x. Outcome (extend (λ e. f (g e)) st q' c (λ p. parse l p)) l x) (sym (pass_fit_full d cs h))
         (extend-full (λ e. f (g e)) st q' c (λ p. parse l p) (omega (arith, far, im.size))))
 
 -- ── parentheses ─────────────────────────────────────────────────────────────────────────────────
@@ -192,7 +192,7 @@ module _ (l : List Token) (d : Draft) (f g : Expr → Expr) (st : List (Expr →
   abbrev closing : List Cell
   closing = close_at (suc (length st)) ∷ []
 
-  image-close : d.used + 1 ≤ max_cells → Image (lay lowered closing) (λ e. g (inner (f close) e)) st (suc q) c
+  image-close : d.used + 1 ≤ max_cells → Image (pass_lay lowered closing) (λ e. g (inner (f close) e)) st (suc q) c
   image-close h =
       let a = im.around in
       record {
@@ -217,17 +217,17 @@ module _ (l : List Token) (d : Draft) (f g : Expr → Expr) (st : List (Expr →
         around = a.4;
       }
 
-  closing-inner : Outcome (extend (λ e. g (inner (f close) e)) st (suc q) c (λ p. parse l p)) l (closed d)
+  closing-inner : Outcome (extend (λ e. g (inner (f close) e)) st (suc q) c (λ p. parse l p)) l (pass_closed d)
   closing-inner =
       let P = extend (λ e. g (inner (f close) e)) st (suc q) c (λ p. parse l p) in
       let v : d.level - 1 ≡ suc (length st) = omega (arith, im.level-is) in
-      let z : closed d ≡ fit lowered closing =
-      close_inner d (λ e. omega (arith, im.level-is)) ∙ ap (λ v. fit (at_level d v d.starts) (close_at v ∷ [])) v in
+      let z : pass_closed d ≡ pass_fit lowered closing =
+      pass_close_inner d (λ e. omega (arith, im.level-is)) ∙ ap (λ v. pass_fit (at_level d v d.starts) (close_at v ∷ [])) v in
       subst (λ x. Outcome P l x) (sym z)
-      (by-leb (d.used + 1) max_cells (Outcome P l (fit lowered closing))
-      (λ h. subst (λ x. Outcome P l x) (sym (fit_room lowered closing h))
+      (by-leb (d.used + 1) max_cells (Outcome P l (pass_fit lowered closing))
+      (λ h. subst (λ x. Outcome P l x) (sym (pass_fit_room lowered closing h))
       (goes (λ e. g (inner (f close) e)) st (suc q) c (extend-room (λ e. g (inner (f close) e)) st (suc q) c (λ p. parse l p) (omega (arith, im.size))) (image-close h)))
-      (λ h. subst (λ x. Outcome P l x) (sym (fit_full lowered closing h))
+      (λ h. subst (λ x. Outcome P l x) (sym (pass_fit_full lowered closing h))
       (extend-full (λ e. g (inner (f close) e)) st (suc q) c (λ p. parse l p) (omega (arith, im.size)))))
 
 -- the last `)`
@@ -239,7 +239,7 @@ module _ (l : List Token) (d : Draft) (f : Expr → Expr) (q c : ℕ) (im : Imag
   last-cells = close_at 0 ∷ known (pos 1) ∷ []
 
   table : d.used + 2 ≤ max_cells
-      → Ready (f close) (lay outside-all last-cells)
+      → Ready (f close) (pass_lay outside-all last-cells)
   table h =
       let a = im.around in
       let k = grown outside-all im.inner-cells im.spare last-cells (omega arith, (omega arith, tt)) (same-cells d im.inner-cells im.spare 0 im.cells_are) h in
@@ -248,22 +248,22 @@ module _ (l : List Token) (d : Draft) (f : Expr → Expr) (q c : ℕ) (im : Imag
       ∙ ap (λ n. pile (emit (f close) 0 n n (known (pos 1) ∷ [])) im.outer) a.0
       ∙ ap (pile (text_cells (f close))) a.1 in
       let u : suc q ≡ used_cells (f close) = sym (im.here.reaches close) ∙ ap (after_expr (f close)) a.0 in
-      ready (lay outside-all last-cells) (f close) (im.spare - 2) (subst (λ R. Cells (lay outside-all last-cells) R (im.spare - 2)) e k) (omega (arith, u, im.size))
+      ready (pass_lay outside-all last-cells) (f close) (im.spare - 2) (subst (λ R. Cells (pass_lay outside-all last-cells) R (im.spare - 2)) e k) (omega (arith, u, im.size))
 
-  closing-last : Outcome (within closes f [] q c (λ p. parse l p)) l (closed d)
+  closing-last : Outcome (within closes f [] q c (λ p. parse l p)) l (pass_closed d)
   unfolding within require
   closing-last =
       let P = within closes f [] q c (λ p. parse l p) in
       let v : d.level - 1 ≡ 0 = omega (arith, im.level-is) in
-      let z : closed d ≡ fit outside-all last-cells = close_last d v ∙ ap (λ v. fit (at_level d v d.starts) (close_at v ∷ known (pos 1) ∷ [])) v in
+      let z : pass_closed d ≡ pass_fit outside-all last-cells = pass_close_last d v ∙ ap (λ v. pass_fit (at_level d v d.starts) (close_at v ∷ known (pos 1) ∷ [])) v in
       subst (λ x. Outcome P l x) (sym z)
-      (by-leb (d.used + 2) max_cells (Outcome P l (fit outside-all last-cells))
-      (λ h. subst (λ x. Outcome P l x) (sym (fit_room outside-all last-cells h))
+      (by-leb (d.used + 2) max_cells (Outcome P l (pass_fit outside-all last-cells))
+      (λ h. subst (λ x. Outcome P l x) (sym (pass_fit_room outside-all last-cells h))
       (closes-all (f close) (simp (le-leb (suc q) max_cells (omega (arith, im.size)))) refl (table h)))
-      (λ h. subst (λ x. Outcome P l x) (sym (fit_full outside-all last-cells h)) (simp (lt-leb (suc q) max_cells (omega (arith, im.size))))))
+      (λ h. subst (λ x. Outcome P l x) (sym (pass_fit_full outside-all last-cells h)) (simp (lt-leb (suc q) max_cells (omega (arith, im.size))))))
 
 closing-any : (l : List Token) (d : Draft) (f : Expr → Expr) (st : List (Expr → Expr)) (q c : ℕ) → Image d f st q c
-    → Outcome (within closes f st q c (λ p. parse l p)) l (closed d)
+    → Outcome (within closes f st q c (λ p. parse l p)) l (pass_closed d)
 unfolding within
 closing-any l d f [] q c im = closing-last l d f q c im
 closing-any l d f (g ∷ st) q c im = closing-inner l d f g st q c im
@@ -289,22 +289,22 @@ module _ (l : List Token) (d : Draft) (f : Expr → Expr) (st : List (Expr → E
         around = im.around;
       }
 
-  counting : (m : ℕ) → Outcome (within (counts m) f st q c (λ p. parse l p)) l (counted d (suc m))
+  counting : (m : ℕ) → Outcome (within (counts m) f st q c (λ p. parse l p)) l (pass_counted d (suc m))
   unfolding within require
   counting m =
       let P = within (counts m) f st q c (λ p. parse l p) in
-      by-ltb c max_counters (λ _. Outcome P l (counted d (suc m)))
+      by-ltb c max_counters (λ _. Outcome P l (pass_counted d (suc m)))
       (λ h.
-      let z : counted d (suc m) ≡ fit (count_on d) (counter_cells (suc m) c (suc (length st))) =
-      count_room d (suc m) (omega (arith, im.counters-are))
-      ∙ ap (λ k. fit (count_on d) (counter_cells (suc m) k d.level)) im.counters-are
-      ∙ ap (λ v. fit (count_on d) (counter_cells (suc m) c v)) im.level-is in
+      let z : pass_counted d (suc m) ≡ pass_fit (count_on d) (counter_cells (suc m) c (suc (length st))) =
+      pass_count_room d (suc m) (omega (arith, im.counters-are))
+      ∙ ap (λ k. pass_fit (count_on d) (counter_cells (suc m) k d.level)) im.counters-are
+      ∙ ap (λ v. pass_fit (count_on d) (counter_cells (suc m) c v)) im.level-is in
       let p : P ≡ extend (λ e. f (test (counter m c) e)) st (after_predicate (counter m c) q) (suc c) (λ p. parse l p) = simp (lt-ltb c max_counters h) in
       subst (λ x. Outcome P l x) (sym z)
-      (subst (λ x. Outcome x l (fit (count_on d) (counter_cells (suc m) c (suc (length st))))) (sym p)
+      (subst (λ x. Outcome x l (pass_fit (count_on d) (counter_cells (suc m) c (suc (length st))))) (sym p)
       (extended l (count_on d) f (test (counter m c)) st q (suc c) (after_predicate (counter m c) q) (counter_cells (suc m) c (suc (length st))) image-count
       (omega arith, (omega arith, (omega arith, (omega (arith, im.deep), tt)))) (omega arith) (λ e r. refl) (λ e. refl))))
-      (λ h. subst (λ x. Outcome P l x) (sym (count_full d (suc m) (omega (arith, im.counters-are)))) (simp (le-ltb c max_counters h)))
+      (λ h. subst (λ x. Outcome P l x) (sym (pass_count_full d (suc m) (omega (arith, im.counters-are)))) (simp (le-ltb c max_counters h)))
 
 -- ── one token ───────────────────────────────────────────────────────────────────────────────────
 
@@ -328,10 +328,10 @@ module _ (s : List ℕ) (l : List Token) (d : Draft) (f : Expr → Expr) (st : L
   from t t' e p o = subst (λ t. Outcome (parse t at) l e) (sym p) o
 
   -- cells at the draft's level
-  level-at : (P : Reading) (cs : ℕ → List Cell) → Outcome P l (fit d (cs (suc (length st)))) → Outcome P l (fit d (cs d.level))
-  level-at P cs o = subst (λ v. Outcome P l (fit d (cs v))) (sym im.level-is) o
+  level-at : (P : Reading) (cs : ℕ → List Cell) → Outcome P l (pass_fit d (cs (suc (length st)))) → Outcome P l (pass_fit d (cs d.level))
+  level-at P cs o = subst (λ v. Outcome P l (pass_fit d (cs v))) (sym im.level-is) o
 
-  operating-on : (o : Operation) → Outcome (extend (λ e. f (operate o e)) st (after_operation o q) c (λ p. parse l p)) l (fit d (operation_draft o))
+  operating-on : (o : Operation) → Outcome (extend (λ e. f (operate o e)) st (after_operation o q) c (λ p. parse l p)) l (pass_fit d (operation_draft o))
   operating-on o = extended l d f (operate o) st q c (after_operation o q) (operation_draft o) im (operation-low o) (operation-far o q) (λ e r. refl) (λ e. refl)
 
   pub one_fault : (r : Fault) (ts : List Token) → (ts ≡ faults r ∷ []) ⊎ (ts ≡ begins ∷ faults r ∷ []) → parse ts at ≡ refused r
@@ -340,10 +340,10 @@ module _ (s : List ℕ) (l : List Token) (d : Draft) (f : Expr → Expr) (st : L
   one_fault r ts (inr m) = ap (λ t. parse t at) m
 
   pub one_token : (t : Lexer.Token) (ts : List Token) → Means s t ts l → Outcome (parse ts at) l (taken s t d)
-  unfolding parse within taken coloned
+  unfolding parse within taken pass_coloned
   one_token T.End ts m = ap (λ t. parse t at) m
   one_token T.Open ts m = from ts (opens ∷ l) (opened d) m (opening l d f st q c im)
-  one_token T.Close ts m = from ts (closes ∷ l) (closed d) m (closing-any l d f st q c im)
+  one_token T.Close ts m = from ts (closes ∷ l) (pass_closed d) m (closing-any l d f st q c im)
   one_token T.Semicolon ts m =
       from ts (semis ∷ l) _ m
       (level-at _ (λ v. semi_at v ∷ [])
@@ -352,26 +352,26 @@ module _ (s : List ℕ) (l : List Token) (d : Draft) (f : Expr → Expr) (st : L
       let e : get_or d.starts d.level (pos 0) ≡ pos im.start =
       ap (λ v. get_or d.starts v (pos 0)) im.level-is ∙ start-here st im.start im.outer d.starts im.around in
       from ts (colons ∷ l) _ m
-      (subst (λ z. Outcome (parse (colons ∷ l) at) l (fit d (colon_at d.level z ∷ []))) (sym e)
+      (subst (λ z. Outcome (parse (colons ∷ l) at) l (pass_fit d (colon_at d.level z ∷ []))) (sym e)
       (level-at _ (λ v. colon_at v (pos im.start) ∷ [])
       (extended l d f colon st q c (suc q) (colon_at (suc (length st)) (pos im.start) ∷ []) im (omega (arith, im.deep), tt) (omega arith) (λ e r. refl) (λ e. refl))))
   one_token (T.Operator b) ts m =
-      from ts _ _ m.here-is (subst (λ b. Outcome (parse (begins ∷ does (operator m.mark) ∷ l) at) l (fit d (known (opcode b) ∷ []))) m.byte-is (operating-on (operator m.mark)))
+      from ts _ _ m.here-is (subst (λ b. Outcome (parse (begins ∷ does (operator m.mark) ∷ l) at) l (pass_fit d (known (opcode b) ∷ []))) m.byte-is (operating-on (operator m.mark)))
   one_token (T.Variable b k) ts m =
       from ts _ _ m.here-is
-      (subst (λ b. Outcome (parse (begins ∷ does (variable m.mark k) ∷ l) at) l (fit d (operand_cells b (pos k)))) m.byte-is (operating-on (variable m.mark k)))
+      (subst (λ b. Outcome (parse (begins ∷ does (variable m.mark k) ∷ l) at) l (pass_fit d (operand_cells b (pos k)))) m.byte-is (operating-on (variable m.mark k)))
   one_token (T.Condition b) ts m =
       from ts _ _ m.here-is
-      (subst (λ b. Outcome (parse (begins ∷ asks m.mark ∷ l) at) l (fit d (test_cells b d.level))) m.byte-is
+      (subst (λ b. Outcome (parse (begins ∷ asks m.mark ∷ l) at) l (pass_fit d (test_cells b d.level))) m.byte-is
       (level-at _ (λ v. predicate_draft (condition m.mark) v)
       (extended l d f (test (condition m.mark)) st q c (suc (suc q)) (predicate_draft (condition m.mark) (suc (length st))) im (omega arith, (omega (arith, im.deep), tt)) (omega arith) (λ e r. refl) (λ e. refl))))
   one_token (T.Call b) ts m =
       from ts _ _ m.here-is
-      (subst (λ b. Outcome (parse (begins ∷ calls m.mark ∷ l) at) l (fit d (test_cells b d.level))) m.byte-is
+      (subst (λ b. Outcome (parse (begins ∷ calls m.mark ∷ l) at) l (pass_fit d (test_cells b d.level))) m.byte-is
       (level-at _ (λ v. call_draft m.mark v)
       (extended l d f (call m.mark) st q c (suc (suc q)) (call_draft m.mark (suc (length st))) im (omega arith, (omega (arith, im.deep), tt)) (omega arith) (λ e r. refl) (λ e. refl))))
   one_token (T.Counter n) ts m =
       from ts _ _ m.stands.here-is
-      (subst (λ n. Outcome (parse (begins ∷ counts m.stands.mark ∷ l) at) l (counted d n)) m.stands.byte-is (counting l d f st q c im m.stands.mark))
+      (subst (λ n. Outcome (parse (begins ∷ counts m.stands.mark ∷ l) at) l (pass_counted d n)) m.stands.byte-is (counting l d f st q c im m.stands.mark))
   one_token (T.Constant v) ts m = from ts _ _ m (operating-on (constant v))
   one_token (T.Print a n) ts m = from ts _ _ m.here-is (operating-on (print (take n (drop a s))))

@@ -8,22 +8,22 @@ use Rattle.language.specs.declared.Fault.TheVariants.{Unfinished}
 use Rattle.lexer.specs.declared.Token as Lexer
 use Rattle.lexer.specs.declared.Token.TheVariants as T
 use Rattle.emitter.specs.declared.pass.Draft.{Draft}
-use Rattle.emitter.specs.Drafts.{known, semi_at, fit, opened, closed, coloned, operand_cells, test_cells, counted, print_cells, Inside}
+use Rattle.emitter.specs.Drafts.{known, semi_at, pass_fit, opened, pass_closed, pass_coloned, operand_cells, test_cells, pass_counted, print_cells, Inside}
 
 -- a token of the text s
 unfoldable pub taken : List ℕ → Lexer.Token → Draft → Result Draft Fault
 taken s T.End d = Err Unfinished
 taken s T.Open d = opened d
-taken s T.Close d = closed d
-taken s T.Semicolon d = fit d (semi_at d.level ∷ [])
-taken s T.Colon d = coloned d
-taken s (T.Operator b) d = fit d (known (opcode b) ∷ [])
-taken s (T.Variable b k) d = fit d (operand_cells b (pos k))
-taken s (T.Condition b) d = fit d (test_cells b d.level)
-taken s (T.Call b) d = fit d (test_cells b d.level)
-taken s (T.Counter n) d = counted d n
-taken s (T.Constant v) d = fit d (operand_cells constant_code v)
-taken s (T.Print a n) d = fit d (print_cells (take n (drop a s)))
+taken s T.Close d = pass_closed d
+taken s T.Semicolon d = pass_fit d (semi_at d.level ∷ [])
+taken s T.Colon d = pass_coloned d
+taken s (T.Operator b) d = pass_fit d (known (opcode b) ∷ [])
+taken s (T.Variable b k) d = pass_fit d (operand_cells b (pos k))
+taken s (T.Condition b) d = pass_fit d (test_cells b d.level)
+taken s (T.Call b) d = pass_fit d (test_cells b d.level)
+taken s (T.Counter n) d = pass_counted d n
+taken s (T.Constant v) d = pass_fit d (operand_cells constant_code v)
+taken s (T.Print a n) d = pass_fit d (print_cells (take n (drop a s)))
 
 -- the numbers of a token of the text s
 abbrev pub Fine : List ℕ → Lexer.Token → Type 0

@@ -1,5 +1,5 @@
 -- The first pass: the cells of a text with their false exits and ends open, one mark after another.
-use Rattle.std.specs.Prelude.{◌≡◌, Result, Ok, Err, ⊤, cond, List, [], ◌∷◌, ℕ, ◌+◌, ◌-◌, ◌≤◌, ◌<◌, ℤ, pos, length, get_or, set, replicate, leb, ltb, eqb}
+use Rattle.std.specs.Prelude.{◌≡◌, Result, Ok, Err, ⊤, cond, List, [], ◌∷◌, ℕ, zero, suc, ◌+◌, ◌-◌, ◌≤◌, ◌<◌, ℤ, pos, length, get_or, set, replicate, leb, ltb, eqb}
 use Rattle.language.specs.Limits.{max_text, max_levels, max_cells, max_counters, max_limit}
 use Rattle.language.specs.Syntax.{counter_code, print_code}
 use Rattle.language.specs.Layout.{opcode, first_cell, code_start}
@@ -59,21 +59,9 @@ fresh =
       starts = set (replicate level_places (pos 0)) 1 (pos code_start);
     }
 
--- the draft, with the pass where p says
-abbrev pub draft_at : Draft → Pass → Draft
-draft_at d p = record d { level = p.level; used = p.used }
-
--- what is open in the cells, with this in cell i too; a known cell stands, since it is one that was not used yet
-abbrev pub opened_in : List Open → ℕ → Open → List Open
-opened_in os i Known = os
-opened_in os i (Exit v) = set os i (Exit v)
-opened_in os i (End v) = set os i (End v)
-opened_in os i (Close v) = set os i (Close v)
-opened_in os i (Colon v) = set os i (Colon v)
-
--- one more cell
+-- one more cell, and what is open in it
 abbrev pub put : Draft → Cell → Draft
-put d c = record d { used = d.used + 1; cells = set d.cells d.used c.holds; opens = opened_in d.opens d.used c.waits }
+put d c = record d { used = d.used + 1; cells = set d.cells d.used c.holds; opens = set d.opens d.used c.waits }
 
 -- more cells
 abbrev pub lay : Draft → List Cell → Draft
@@ -133,6 +121,49 @@ known_bytes (b ∷ l) = known (pos b) ∷ known_bytes l
 abbrev pub print_cells : List ℕ → List Cell
 print_cells b = known (opcode print_code) ∷ known (pos (length b)) ∷ known_bytes b
 
+-- ── tokens of a pass ────────────────────────────────────────────────────────────────────────────
+
+-- A pass has its place beside the draft that it is lent, and writes nothing of what is open where the cell is known.
+
+-- the draft, with the pass where p says
+abbrev pub draft_at : Draft → Pass → Draft
+draft_at d p = record d { level = p.level; used = p.used }
+
+-- what is open in the cells, with this in cell i too; a known cell stands, since it is one that was not used yet
+abbrev pub opened_in : List Open → ℕ → Open → List Open
+opened_in os i Known = os
+opened_in os i (Exit v) = set os i (Exit v)
+opened_in os i (End v) = set os i (End v)
+opened_in os i (Close v) = set os i (Close v)
+opened_in os i (Colon v) = set os i (Colon v)
+
+-- one more cell of a pass
+abbrev pub pass_put : Draft → Cell → Draft
+pass_put d c = record d { used = d.used + 1; cells = set d.cells d.used c.holds; opens = opened_in d.opens d.used c.waits }
+
+-- more cells
+abbrev pub pass_lay : Draft → List Cell → Draft
+pass_lay d [] = d
+pass_lay d (c ∷ cs) = pass_lay (pass_put d c) cs
+
+-- "table full: a mark needs cell 251"
+unfoldable pub pass_fit : Draft → List Cell → Result Draft Fault
+pass_fit d cs = cond (leb (d.used + length cs) max_cells) (Ok (pass_lay d cs)) (Err TableFull)
+
+-- "last `)`: 0, then a last cell holding 1"
+unfoldable pub pass_closed : Draft → Result Draft Fault
+pass_closed d =
+    let e = at_level d (d.level - 1) d.starts in
+    cond (eqb (d.level - 1) 0) (pass_fit e (close_at (d.level - 1) ∷ known (pos 1) ∷ [])) (pass_fit e (close_at (d.level - 1) ∷ []))
+
+-- a `:`, which holds the first cell of its expression
+unfoldable pub pass_coloned : Draft → Result Draft Fault
+pass_coloned d = pass_fit d (colon_at d.level (get_or d.starts d.level (pos 0)) ∷ [])
+
+-- "many counters: a 17th"
+unfoldable pub pass_counted : Draft → ℕ → Result Draft Fault
+pass_counted d n = cond (ltb d.counters max_counters) (pass_fit (count_on d) (counter_cells n d.counters d.level)) (Err ManyCounters)
+
 -- ── what the code's functions need and do ───────────────────────────────────────────────────────
 
 -- the pass is inside the outermost expression, and within the limits
@@ -158,7 +189,7 @@ Steps step d (Err why) e = (step d ≡ Err why) × (e ≡ d)
 
 -- One more cell, after which the pass is at q. The draft's own level and used cells stay.
 pub record Puts (c : Cell) (d : Draft) (p : Pass) (e : Draft) (q : Pass) : Type 0 where
-  pub cell_is : draft_at e q ≡ put (draft_at d p) c
+  pub cell_is : draft_at e q ≡ pass_put (draft_at d p) c
   pub level-kept : e.level ≡ d.level
   pub used-kept : e.used ≡ d.used
 
@@ -167,6 +198,11 @@ pub record Marks (step : Draft → Result Draft Fault) (d : Draft) (p : Pass) (r
   pub steps : Steps step (draft_at d p) r (draft_at e q)
   pub level-kept : e.level ≡ d.level
   pub used-kept : e.used ≡ d.used
+
+-- the n cells from place i on are known
+abbrev pub cleared : List Open → ℕ → ℕ → List Open
+cleared os i zero = os
+cleared os i (suc n) = cleared (set os i Known) (i + 1) n
 
 -- The answer whether there is room for n cells more.
 abbrev pub HasRoom : Pass → ℕ → Result ⊤ Fault → Type 0

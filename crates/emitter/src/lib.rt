@@ -2,3 +2,5 @@
 #![tactic(auto)]
 
 pub mod pass;
+#[cfg(test)]
+mod tests;

@@ -1,9 +1,10 @@
 // The first pass, left to right: every limit, all that a cell can know, and what is open in the others.
-ghost use Rattle.std.specs.Prelude.{◌≡◌, [], ◌∷◌, ◌≤◌, ◌<◌};
+ghost use Rattle.std.specs.Prelude.{◌≡◌, [], ◌∷◌, ◌+◌, ◌≤◌, ◌<◌};
 ghost use Rattle.language.specs.Limits.{max_cells, max_levels};
 ghost use Rattle.language.specs.Layout.{opcode};
-ghost use Rattle.emitter.specs.Drafts.{known, semi_at, cell, draft_at, fit, fresh, opened, closed, coloned, operand_cells, test_cells, counted, print_cells};
-ghost use Rattle.emitter.specs.Drafts.{Inside, Countable, Printable, HasRoom, Puts, Marks};
+ghost use Rattle.emitter.specs.Drafts.{known, semi_at, cell, fresh, fit, opened, closed, coloned, operand_cells, test_cells, counted, print_cells};
+ghost use Rattle.emitter.specs.Drafts.{draft_at, pass_fit, pass_closed, pass_coloned, pass_counted};
+ghost use Rattle.emitter.specs.Drafts.{Inside, Countable, Printable, Steps, HasRoom, Puts, Marks, cleared};
 
 use language::{Fault, PRINT_CODE, Table};
 
@@ -65,7 +66,7 @@ impl Draft {
     }
 }
 
-#[tactic(auto, using(crate::proofs::Drafts::fit_room, crate::proofs::Drafts::fit_full, crate::proofs::Drafts::open_room, crate::proofs::Drafts::open_full, crate::proofs::Drafts::close_last, crate::proofs::Drafts::close_inner, crate::proofs::Drafts::count_room, crate::proofs::Drafts::count_full, crate::proofs::Drafts::bytes_length, crate::proofs::Drafts::bytes_past), unfolding(crate::specs::Drafts::fresh, crate::specs::Drafts::coloned))]
+#[tactic(auto, using(crate::proofs::Drafts::pass_fit_room, crate::proofs::Drafts::pass_fit_full, crate::proofs::Drafts::open_room, crate::proofs::Drafts::open_full, crate::proofs::Drafts::pass_close_last, crate::proofs::Drafts::pass_close_inner, crate::proofs::Drafts::pass_count_room, crate::proofs::Drafts::pass_count_full, crate::proofs::Drafts::bytes_length, crate::proofs::Drafts::pass_bytes_past), unfolding(crate::specs::Drafts::fresh, crate::specs::Drafts::pass_coloned))]
 impl Pass {
     // Inside the outermost `(`, after cell 1.
     pub fn fresh() -> Pass
@@ -117,7 +118,7 @@ impl Pass {
     // A mark of one cell.
     pub fn operator(&mut self, draft: &mut Draft, b: u8) -> Result<(), Fault>
         requires { Inside (draft_at draft.old self.old) }
-        ensures { Marks (λ d. fit d (known (opcode b) ∷ [])) draft.old self.old result draft.new self.new }
+        ensures { Marks (λ d. pass_fit d (known (opcode b) ∷ [])) draft.old self.old result draft.new self.new }
     {
         self.room(1)?;
         self.code(draft, u16::from(b));
@@ -127,7 +128,7 @@ impl Pass {
     // A variable's or a constant's opcode and its value.
     pub fn operand(&mut self, draft: &mut Draft, code: u8, value: i32) -> Result<(), Fault>
         requires { Inside (draft_at draft.old self.old) }
-        ensures { Marks (λ d. fit d (operand_cells code value)) draft.old self.old result draft.new self.new }
+        ensures { Marks (λ d. pass_fit d (operand_cells code value)) draft.old self.old result draft.new self.new }
     {
         self.room(2)?;
         self.code(draft, u16::from(code));
@@ -138,7 +139,7 @@ impl Pass {
     // A predicate's or a call's opcode and its false exit.
     pub fn test(&mut self, draft: &mut Draft, b: u8) -> Result<(), Fault>
         requires { Inside (draft_at draft.old self.old) }
-        ensures { Marks (λ d. fit d (test_cells b d.level)) draft.old self.old result draft.new self.new }
+        ensures { Marks (λ d. pass_fit d (test_cells b d.level)) draft.old self.old result draft.new self.new }
     {
         self.room(2)?;
         self.code(draft, u16::from(b));
@@ -149,7 +150,7 @@ impl Pass {
     // A counter's opcode, -n, its order in the text and its false exit.
     pub fn counter(&mut self, draft: &mut Draft, n: u32) -> Result<(), Fault>
         requires { Countable (draft_at draft.old self.old) n }
-        ensures { Marks (λ d. counted d n) draft.old self.old result draft.new self.new }
+        ensures { Marks (λ d. pass_counted d n) draft.old self.old result draft.new self.new }
     {
         let order = draft.counters;
         if Table::COUNTERS <= order {
@@ -167,7 +168,7 @@ impl Pass {
     // A `;`.
     pub fn semicolon(&mut self, draft: &mut Draft) -> Result<(), Fault>
         requires { Inside (draft_at draft.old self.old) }
-        ensures { Marks (λ d. fit d (semi_at d.level ∷ [])) draft.old self.old result draft.new self.new }
+        ensures { Marks (λ d. pass_fit d (semi_at d.level ∷ [])) draft.old self.old result draft.new self.new }
     {
         self.room(1)?;
         self.put(draft, 0, Open::End(self.depth()));
@@ -177,7 +178,7 @@ impl Pass {
     // A `:`, which holds the first cell of its expression.
     pub fn colon(&mut self, draft: &mut Draft) -> Result<(), Fault>
         requires { Inside (draft_at draft.old self.old) }
-        ensures { Marks coloned draft.old self.old result draft.new self.new }
+        ensures { Marks pass_coloned draft.old self.old result draft.new self.new }
     {
         self.room(1)?;
         let start = draft.starts[self.level];
@@ -202,7 +203,7 @@ impl Pass {
     // A `)`, which belongs to the expression around it; the last one has two cells.
     pub fn close(&mut self, draft: &mut Draft) -> Result<(), Fault>
         requires { Inside (draft_at draft.old self.old) }
-        ensures { Marks closed draft.old self.old result draft.new self.new }
+        ensures { Marks pass_closed draft.old self.old result draft.new self.new }
     {
         if self.level == 1 {
             self.room(2)?; // "both its cells"
@@ -220,7 +221,7 @@ impl Pass {
     // A print's opcode, its length and its bytes.
     pub fn print(&mut self, draft: &mut Draft, bytes: &[u8]) -> Result<(), Fault>
         requires { Printable (draft_at draft.old self.old) bytes.now }
-        ensures { Marks (λ d. fit d (print_cells bytes.now)) draft.old self.old result draft.new self.new }
+        ensures { Marks (λ d. pass_fit d (print_cells bytes.now)) draft.old self.old result draft.new self.new }
     {
         self.room(2 + bytes.len())?;
         self.code(draft, u16::from(PRINT_CODE));
@@ -229,5 +230,161 @@ impl Pass {
             self.put(draft, i32::from(bytes[i]), Open::Known);
         }
         Ok(())
+    }
+}
+
+// The marks of a draft: those of a pass from where the draft stands, which it follows. They write what is open of each cell that they lay, of a known one too.
+#[tactic(auto)]
+impl Draft {
+    // A pass from where the draft stands.
+    fn pass(&self) -> Pass
+        ensures { draft_at self.now result ≡ self.now }
+    {
+        Pass {
+            level: self.level,
+            used: self.used,
+        }
+    }
+
+    // So many cells from `at` on are known.
+    fn clear(&mut self, at: usize, cells: usize)
+        requires { at + cells ≤ max_cells }
+        ensures { self.new ≡ record self.old { opens = cleared self.old.opens at cells } }
+    {
+        for i in at..at + cells {
+            self.opens[i] = Open::Known;
+        }
+    }
+
+    // The draft stands where the pass has come to.
+    fn follow(&mut self, pass: Pass)
+        ensures { self.new ≡ draft_at self.old pass }
+    {
+        self.level = pass.level;
+        self.used = pass.used;
+    }
+
+    // A mark of one cell.
+    pub fn operator(&mut self, b: u8) -> Result<(), Fault>
+        requires { Inside self.old }
+        ensures { Steps (λ d. fit d (known (opcode b) ∷ [])) self.old result self.new }
+    {
+        let at = self.used;
+        let mut pass = self.pass();
+        let marked = pass.operator(self, b);
+        self.follow(pass);
+        if marked.is_ok() {
+            self.clear(at, 1); // its one cell
+        }
+        marked
+    }
+
+    // A variable's or a constant's opcode and its value.
+    pub fn operand(&mut self, code: u8, value: i32) -> Result<(), Fault>
+        requires { Inside self.old }
+        ensures { Steps (λ d. fit d (operand_cells code value)) self.old result self.new }
+    {
+        let at = self.used;
+        let mut pass = self.pass();
+        let marked = pass.operand(self, code, value);
+        self.follow(pass);
+        if marked.is_ok() {
+            self.clear(at, 2);
+        }
+        marked
+    }
+
+    // A predicate's or a call's opcode and its false exit.
+    pub fn test(&mut self, b: u8) -> Result<(), Fault>
+        requires { Inside self.old }
+        ensures { Steps (λ d. fit d (test_cells b d.level)) self.old result self.new }
+    {
+        let at = self.used;
+        let mut pass = self.pass();
+        let marked = pass.test(self, b);
+        self.follow(pass);
+        if marked.is_ok() {
+            self.clear(at, 1); // the exit waits
+        }
+        marked
+    }
+
+    // A counter's opcode, -n, its order in the text and its false exit.
+    pub fn counter(&mut self, n: u32) -> Result<(), Fault>
+        requires { Countable self.old n }
+        ensures { Steps (λ d. counted d n) self.old result self.new }
+    {
+        let at = self.used;
+        let mut pass = self.pass();
+        let marked = pass.counter(self, n);
+        self.follow(pass);
+        if marked.is_ok() {
+            self.clear(at, 3);
+        }
+        marked
+    }
+
+    // A `;`.
+    pub fn semicolon(&mut self) -> Result<(), Fault>
+        requires { Inside self.old }
+        ensures { Steps (λ d. fit d (semi_at d.level ∷ [])) self.old result self.new }
+    {
+        let mut pass = self.pass();
+        let marked = pass.semicolon(self);
+        self.follow(pass);
+        marked
+    }
+
+    // A `:`, which holds the first cell of its expression.
+    pub fn colon(&mut self) -> Result<(), Fault>
+        requires { Inside self.old }
+        ensures { Steps coloned self.old result self.new }
+    {
+        let mut pass = self.pass();
+        let marked = pass.colon(self);
+        self.follow(pass);
+        marked
+    }
+
+    // A `(` inside the outermost one.
+    pub fn open(&mut self) -> Result<(), Fault>
+        requires { Inside self.old }
+        ensures { Steps opened self.old result self.new }
+    {
+        let mut pass = self.pass();
+        let marked = pass.open(self);
+        self.follow(pass);
+        marked
+    }
+
+    // A `)`, which belongs to the expression around it; the last one has two cells, the second of which is known.
+    pub fn close(&mut self) -> Result<(), Fault>
+        requires { Inside self.old }
+        ensures { Steps closed self.old result self.new }
+    {
+        let at = self.used;
+        let last = usize::from(self.level == 1);
+        let mut pass = self.pass();
+        let marked = pass.close(self);
+        self.follow(pass);
+        if marked.is_ok() {
+            self.clear(at + 1, last);
+        }
+        marked
+    }
+
+    // A print's opcode, its length and its bytes.
+    pub fn print(&mut self, bytes: &[u8]) -> Result<(), Fault>
+        requires { Printable self.old bytes.now }
+        ensures { Steps (λ d. fit d (print_cells bytes.now)) self.old result self.new }
+    {
+        let at = self.used;
+        let mut pass = self.pass();
+        let marked = pass.print(self, bytes);
+        self.follow(pass);
+        if marked.is_ok() {
+            self.clear(at, 2 + bytes.len());
+        }
+        marked
     }
 }

@@ -9,9 +9,11 @@ use lib.Seq.{paste, take-length, take-paste, length-paste}
 use Rattle.language.specs.Limits.{max_text}
 use Rattle.language.specs.Syntax.{Expr}
 use Rattle.language.specs.Reading.{Reading, refused, accepted, read}
+use Rattle.language.specs.declared.Table.{Table}
 use Rattle.language.proofs.Grammar.{reading-sound}
 use Rattle.std.specs.Prelude.{Ok}
-use Rattle.linker.specs.Linked.{judged}
+use Rattle.linker.specs.Linked.{linked, judged}
+use Rattle.linker.proofs.LinkedOver.{judged-of}
 use Rattle.numerals.specs.Numerals.{Written, wrote, written, delivers}
 use Rattle.numerals.proofs.Numerals.{written-room, delivered-whole, delivered-short}
 use Rattle.faircopy.specs.FairCopy.{fair_copy, short_paper, copied}
@@ -24,8 +26,8 @@ blank = replicate max_text 0
 
 -- the text s is accepted
 module _ (s : List ℕ) (accept : Ok tt ≡ judged (read s)) where
-  pub accepted-text : Copies s blank
-  accepted-text = go (read s) refl accept
+  pub judged-text : Copies s blank
+  judged-text = go (read s) refl accept
     where
       go : (r : Reading) → read s ≡ r → Ok tt ≡ judged r → Copies s blank
       go (refused f) h k = absurd cc
@@ -35,7 +37,7 @@ module _ (s : List ℕ) (accept : Ok tt ≡ judged (read s)) where
 module _ (s : List ℕ) (accept : Ok tt ≡ judged (read s)) (n : ℕ) (o' : List ℕ)
     (f : (w : Expr) → read s ≡ accepted w → wrote n o' ≡ written blank 0 (fair_copy w)) where
   abbrev c : Copies s blank
-  c = accepted-text s accept
+  c = judged-text s accept
 
   abbrev fc : List ℕ
   fc = fair_copy c.expression
@@ -46,13 +48,13 @@ module _ (s : List ℕ) (accept : Ok tt ≡ judged (read s)) (n : ℕ) (o' : Lis
   all : wrote n o' ≡ wrote (0 + length fc) (paste blank 0 fc (length fc))
   all = f c.expression c.reads ∙ sym (written-room blank 0 fc (omega (arith, shorter)))
 
-  pub counted : n ≡ length fc
-  counted = let k : n ≡ 0 + length fc = ap (λ (x : Written). x.next) all in omega arith
+  pub judged-counted : n ≡ length fc
+  judged-counted = let k : n ≡ 0 + length fc = ap (λ (x : Written). x.next) all in omega arith
 
-  pub little : n ≤ length o'
-  little =
+  pub judged-little : n ≤ length o'
+  judged-little =
       let k = ap (λ (x : Written). length x.buffer) all in
-      omega (arith, counted, shorter, length-paste blank 0 fc (length fc) (omega (arith, shorter)) (omega arith))
+      omega (arith, judged-counted, shorter, length-paste blank 0 fc (length fc) (omega (arith, shorter)) (omega arith))
 
   -- they are the copy
   bytes : take n o' ≡ fc
@@ -61,14 +63,34 @@ module _ (s : List ℕ) (accept : Ok tt ≡ judged (read s)) (n : ℕ) (o' : Lis
       ∙ take-paste blank 0 fc (length fc) (omega (arith, shorter)) (omega arith)
       ∙ take-length fc
 
-  pub short-paper : (p : List ℕ) → length p < n → delivers short_paper 0 p ≡ copied p (read s)
-  short-paper p h =
-      delivered-short short_paper p fc (omega (arith, counted)) ∙ sym (ap (copied p) c.reads)
+  pub judged-short-paper : (p : List ℕ) → length p < n → delivers short_paper 0 p ≡ copied p (read s)
+  judged-short-paper p h =
+      delivered-short short_paper p fc (omega (arith, judged-counted)) ∙ sym (ap (copied p) c.reads)
 
-  pub on-paper : (p part : List ℕ) → n ≤ length p → part ≡ take n o' → delivers 0 n (part ++ drop n p) ≡ copied p (read s)
-  on-paper p part h e =
-      let g : length fc ≤ length p = omega (arith, counted) in
+  pub judged-on-paper : (p part : List ℕ) → n ≤ length p → part ≡ take n o' → delivers 0 n (part ++ drop n p) ≡ copied p (read s)
+  judged-on-paper p part h e =
+      let g : length fc ≤ length p = omega (arith, judged-counted) in
       let z : 0 + length fc ≡ length fc = omega arith in
       let b : part ++ drop n p ≡ paste p 0 fc (length fc) =
-      (λ i. (e ∙ bytes) i ++ drop (counted i) p) ∙ ap (λ (k : ℕ). fc ++ drop k p) (sym z) ∙ sym (paste_all p 0 fc (length fc) refl) in
-      (λ i. delivers 0 (counted i) (b i)) ∙ delivered-whole short_paper p fc g ∙ sym (ap (copied p) c.reads)
+      (λ i. (e ∙ bytes) i ++ drop (judged-counted i) p) ∙ ap (λ (k : ℕ). fc ++ drop k p) (sym z) ∙ sym (paste_all p 0 fc (length fc) refl) in
+      (λ i. delivers 0 (judged-counted i) (b i)) ∙ delivered-whole short_paper p fc g ∙ sym (ap (copied p) c.reads)
+
+-- the same of a text that links to a table
+module _ (s : List ℕ) (t : Table) (link : Ok t ≡ linked (read s)) where
+  pub accepted-text : Copies s blank
+  accepted-text = judged-text s (judged-of (read s) t link)
+
+module _ (s : List ℕ) (t : Table) (link : Ok t ≡ linked (read s)) (n : ℕ) (o' : List ℕ)
+    (f : (w : Expr) → read s ≡ accepted w → wrote n o' ≡ written blank 0 (fair_copy w)) where
+  pub counted : n ≡ length (fair_copy (accepted-text s t link).expression)
+  unfolding accepted-text
+  counted = judged-counted s (judged-of (read s) t link) n o' f
+
+  pub little : n ≤ length o'
+  little = judged-little s (judged-of (read s) t link) n o' f
+
+  pub short-paper : (p : List ℕ) → length p < n → delivers short_paper 0 p ≡ copied p (read s)
+  short-paper = judged-short-paper s (judged-of (read s) t link) n o' f
+
+  pub on-paper : (p part : List ℕ) → n ≤ length p → part ≡ take n o' → delivers 0 n (part ++ drop n p) ≡ copied p (read s)
+  on-paper = judged-on-paper s (judged-of (read s) t link) n o' f

@@ -1,4 +1,4 @@
--- A link over lent places that are as many as a table has.
+-- A link over lent places that are as many as a table has, and one over none.
 use mathlib.Core.Path.{◌≡◌, refl, sym, ap, ◌∙◌}
 use mathlib.Core.List.{List, ◌++◌}
 use Prim.Native.Nat.{ℕ, ◌+◌, min}
@@ -7,6 +7,7 @@ use lib.IntN.{ℤ}
 use lib.ListN.{length}
 use Rattle.std.specs.Prelude.{Result, Ok, Err}
 use Rattle.language.specs.declared.Fault.{Fault}
+use Rattle.language.specs.declared.Table.{Table}
 use Rattle.std.proofs.Math.Seq.{paste}
 use Rattle.std.proofs.lemmas.List.Edits.{paste_all}
 use Rattle.std.proofs.lemmas.List.{append-nil, drop_all}
@@ -14,7 +15,7 @@ use Rattle.language.specs.Limits.{max_cells}
 use Rattle.language.specs.Layout.{layout}
 use Rattle.language.specs.Reading.{Reading, refused, accepted, read}
 use Rattle.language.proofs.TablesMeaning.{layout-decodes}
-use Rattle.linker.specs.Linked.{linked}
+use Rattle.linker.specs.Linked.{linked, judged}
 use Rattle.linker.specs.Into.{LinkedOver, links_over, linked_over}
 
 -- a list of the same length stands in the other's place
@@ -39,3 +40,8 @@ link-table s u p q e full = go (read s) refl e
         let f : min max_cells (length p) ≡ max_cells = omega (arith, full) in
         let m : q ≡ (layout w).cells = o ∙ ap (paste p 0 (layout w).cells) f ∙ paste-full max_cells p (layout w).cells full whole in
         rw (n, m) refl
+
+-- a text that links to a table is accepted
+pub judged-of : (r : Reading) (t : Table) → Ok t ≡ linked r → Ok tt ≡ judged r
+judged-of (refused r) t e = absurd cc
+judged-of (accepted w) t e = refl

@@ -1,5 +1,5 @@
 -- `print` meets its contract: the cells that the rest of the bytes add to those so far are the cells that all of them add at the start.
-use Rattle.emitter.specs.Drafts.{draft_at, lay, known_bytes}
+use Rattle.emitter.specs.Drafts.{draft_at, pass_lay, known_bytes}
 use Rattle.emitter.specs.declared.pass.Draft.{Draft}
 use Rattle.emitter.specs.declared.pass.Pass.{Pass}
 use lib.ListN.{drop}
@@ -13,7 +13,7 @@ pub record Printing (bytes : List ℕ) (d₀ : Draft) (p₀ : Pass) (i : ℕ) (d
   pub used-kept : d.used ≡ d₀.used
   pub level-kept : d.level ≡ d₀.level
   pub used-is : p.used ≡ p₀.used + i
-  pub same : lay (draft_at d p) (known_bytes (drop i bytes)) ≡ lay (draft_at d₀ p₀) (known_bytes bytes)
+  pub same : pass_lay (draft_at d p) (known_bytes (drop i bytes)) ≡ pass_lay (draft_at d₀ p₀) (known_bytes bytes)
 
 abbrev pub invariant-loop-i : goal.invariant-loop-i
 invariant-loop-i l = Printing l.bytes l.initial.draft l.initial.self l.i l.draft l.self

@@ -1,0 +1,22 @@
+-- `counter` meets its contract: what the pass does, with the known cells written.
+use native.Mathlib.Omega.{arith}
+use Rattle.emitter.proofs.Following.{counter_widens, has_room, taken, refused}
+use Rattle.emitter.proofs.pass.Draft.counter.Goals as goal
+
+pub returns-else-is_ok : goal.returns-else-is_ok
+returns-else-is_ok c =
+    let a = c.args in
+    rw c.follow.ensures
+    (refused (counter_widens a.n a.self.now) c.pass-pass.ensures _ _ c.counter-marked.ensures.steps c.if-is_ok.ensures.value)
+
+pub returns-then-is_ok : goal.returns-then-is_ok
+returns-then-is_ok c =
+    let a = c.args in
+    rw (c.clear.ensures, c.follow.ensures)
+    (taken (counter_widens a.n a.self.now) c.pass-pass.ensures _ _ c.counter-marked.ensures.steps c.if-is_ok.ensures.value)
+
+pub clear-requires : goal.clear-requires
+clear-requires c =
+    let a = c.args in
+    omega
+    (arith, has_room (counter_widens a.n a.self.now) c.pass-pass.ensures _ _ c.counter-marked.ensures.steps c.if-is_ok.ensures.value)

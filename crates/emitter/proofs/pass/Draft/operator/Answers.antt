@@ -1,0 +1,23 @@
+-- `operator` meets its contract: what the pass does, with the known cell written.
+use native.Mathlib.Omega.{arith}
+use lib.IntN.{pos, neg_ℤ}
+use Rattle.emitter.proofs.Following.{operator_widens, has_room, taken, refused}
+use Rattle.emitter.proofs.pass.Draft.operator.Goals as goal
+
+pub returns-then-is_ok : goal.returns-then-is_ok
+returns-then-is_ok c =
+    let a = c.args in
+    rw (c.clear.ensures, c.follow.ensures)
+    (taken (operator_widens (neg_ℤ (pos a.b)) a.self.now) c.pass-pass.ensures _ _ c.operator-marked.ensures.steps c.if-is_ok.ensures.value)
+
+pub returns-else-is_ok : goal.returns-else-is_ok
+returns-else-is_ok c =
+    let a = c.args in
+    rw c.follow.ensures
+    (refused (operator_widens (neg_ℤ (pos a.b)) a.self.now) c.pass-pass.ensures _ _ c.operator-marked.ensures.steps c.if-is_ok.ensures.value)
+
+pub clear-requires : goal.clear-requires
+clear-requires c =
+    let a = c.args in
+    omega
+    (arith, has_room (operator_widens (neg_ℤ (pos a.b)) a.self.now) c.pass-pass.ensures _ _ c.operator-marked.ensures.steps c.if-is_ok.ensures.value)
